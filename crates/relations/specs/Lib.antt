@@ -1,0 +1,4 @@
+pub mod Between
+pub mod Table
+pub mod Cycle
+pub mod Sound

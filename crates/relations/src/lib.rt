@@ -1,0 +1,10 @@
+// What networks are to each other: customer, provider or peer; both ends say the same, and no cycle of customers.
+mod matrix;
+mod relation;
+mod sound;
+
+pub use matrix::Matrix;
+pub use relation::Relation;
+pub use relation::MOST;
+pub use relation::most_networks;
+pub use sound::Relations;
