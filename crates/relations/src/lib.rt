@@ -6,5 +6,7 @@ mod sound;
 pub use matrix::Matrix;
 pub use relation::Relation;
 pub use relation::MOST;
+pub use relation::RelationDebug;
+pub use relation::RelationPartialEq;
 pub use relation::most_networks;
 pub use sound::Relations;

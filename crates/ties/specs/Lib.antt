@@ -1,0 +1,4 @@
+pub mod File
+pub mod Faults
+pub mod Encoding
+pub mod Steps
