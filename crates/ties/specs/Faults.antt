@@ -51,10 +51,10 @@ unfoldable pub paired : List ℕ → ℕ → ℕ → ℕ → Bool
 paired bs a b zero = false
 paired bs a b (suc k) = same-pair (first bs k) (second bs k) a b || paired bs a b k
 
--- tie k comes after tie k - 1
-abbrev pub in-order : List ℕ → ℕ → Bool
-in-order bs zero = true
-in-order bs (suc k) = rises (first bs k) (second bs k) (first bs (suc k)) (second bs (suc k))
+-- the pair a, b comes after tie k - 1, if there is one
+abbrev pub comes-after : List ℕ → ℕ → ℕ → ℕ → Bool
+comes-after bs zero a b = true
+comes-after bs (suc k) a b = rises (first bs k) (second bs k) a b
 
 -- what is wrong with the head, where the caller allows `most` networks
 abbrev pub head-has : ℕ → List ℕ → Cause → Bool
@@ -84,7 +84,7 @@ tie-at-has n bs p ordered twice TooMany = false
 
 -- what is wrong with tie k
 abbrev pub tie-has : List ℕ → ℕ → Cause → Bool
-tie-has bs k = tie-at-has (networks bs) bs (4 + 3 * k) (in-order bs k) (paired bs (first bs k) (second bs k) k)
+tie-has bs k = tie-at-has (networks bs) bs (4 + 3 * k) (comes-after bs k (first bs k) (second bs k)) (paired bs (first bs k) (second bs k) k)
 
 -- what is wrong after the last tie
 abbrev pub end-has : List ℕ → Cause → Bool
@@ -99,18 +99,22 @@ end-has bs PeersTurned = false
 end-has bs Itself = false
 end-has bs TooMany = false
 
--- the head and the first k ties have no fault
-pub record Clean (most : ℕ) (bs : List ℕ) (k : ℕ) : Type 0 where
-  pub head : told (head-has most bs) ≡ None
-  pub each : (m : ℕ) → m < k → told (tie-has bs m) ≡ None
+-- the first k ties have no fault
+abbrev pub CleanTies : List ℕ → ℕ → Type 0
+CleanTies bs k = (m : ℕ) → m < k → told (tie-has bs m) ≡ None
 
 -- no thing of the file has a fault
 pub record Faultless (most : ℕ) (bs : List ℕ) : Type 0 where
-  pub clean : Clean most bs (ties bs)
+  pub head : told (head-has most bs) ≡ None
+  pub each : CleanTies bs (ties bs)
   pub end : told (end-has bs) ≡ None
+
+-- tie k is the first with a fault
+abbrev pub TieFault : List ℕ → ℕ → Cause → Type 0
+TieFault bs k c = CleanTies bs k × (k < ties bs) × (told (tie-has bs k) ≡ Some c)
 
 -- the first thing with a fault, and what is told of it
 abbrev pub FirstFault : ℕ → List ℕ → Place → Cause → Type 0
 FirstFault most bs Head c = told (head-has most bs) ≡ Some c
-FirstFault most bs (Tie k) c = Clean most bs k × (k < ties bs) × (told (tie-has bs k) ≡ Some c)
-FirstFault most bs End c = Clean most bs (ties bs) × (told (end-has bs) ≡ Some c)
+FirstFault most bs (Tie k) c = (told (head-has most bs) ≡ None) × TieFault bs k c
+FirstFault most bs End c = (told (head-has most bs) ≡ None) × CleanTies bs (ties bs) × (told (end-has bs) ≡ Some c)

@@ -2,3 +2,4 @@ pub mod File
 pub mod Faults
 pub mod Encoding
 pub mod Steps
+pub mod Outcome

@@ -1,4 +1,5 @@
 // The ties file: relations between networks as bytes, read exactly and written.
+mod read;
 mod refusal;
 mod tie;
 

@@ -1,4 +1,7 @@
 // Why a ties file is refused, and where.
+ghost use mathlib.Core.Path.{_≡_};
+ghost use Rattle.ties.specs.declared.refusal.Refusal.the-variants.{Memory};
+use std::alloc::AllocError;
 
 // What is wrong with one thing of the file.
 #[derive(Clone, Copy, Debug, PartialEq, Eq)]
@@ -41,4 +44,12 @@ pub enum Refusal {
     Cycle(Vec<u8>),
     // memory could not be had; the file may be sound
     Memory,
+}
+
+pub impl From<AllocError> for Refusal as RefusalFromAlloc {
+    ghost converts = { λ _ r. r ≡ Memory };
+
+    fn from(_e: AllocError) -> Refusal {
+        Refusal::Memory
+    }
 }
