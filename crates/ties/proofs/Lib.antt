@@ -1,2 +1,4 @@
 mod Causes
 mod Progress
+mod Upto
+mod Decoded
