@@ -49,7 +49,7 @@ pair-other : (r : Between) (a b : ℕ) (x : Relation) (i j : ℕ) → ((i ≡ a)
 pair-other r a b x i j p q = grind (arith, tells)
 
 -- a kind that is known, with peers in their order
-abbrev Known : ℕ → ℕ → ℕ → Type 0
+abbrev pub Known : ℕ → ℕ → ℕ → Type 0
 Known a b k = (k ≡ 1) ⊎ ((k ≡ 2) × (a < b))
 
 listed-here : (a b k : ℕ) → Known a b k → listed (meant k) a b ≡ record { one = a; other = b; kind = k } ∷ []

@@ -2,3 +2,5 @@ mod Causes
 mod Progress
 mod Upto
 mod Decoded
+mod Encoded
+mod Written

@@ -27,9 +27,13 @@ unfoldable pub upto : {X : Type 0} → (ℕ → List X) → ℕ → List X
 upto f zero = []
 upto f (suc k) = upto f k ++ f k
 
+-- the ties in which i stands first, in rising order of the second number
+abbrev pub row : ℕ → Between → ℕ → List Listed
+row n rel i = upto (λ j. listed (rel i j) i j) n
+
 -- all ties of n networks, in rising order of the first and then the second number
 abbrev pub listing : ℕ → Between → List Listed
-listing n rel = upto (λ i. upto (λ j. listed (rel i j) i j) n) n
+listing n rel = upto (row n rel) n
 
 abbrev pub bytes-of : Listed → List ℕ
 bytes-of t = t .one ∷ t .other ∷ t .kind ∷ []

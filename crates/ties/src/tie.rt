@@ -17,7 +17,7 @@ use relations::RelationPartialEq;
 use wire::Reader;
 
 // The first byte of a ties file.
-const TIES: u8 = 16;
+pub const TIES: u8 = 16;
 
 // How many networks there are, and how many ties follow.
 #[derive(Clone, Copy)]

@@ -3,7 +3,7 @@ use mathlib.Core.Path.{_≡_, refl, sym, ap, _∙_, subst}
 use Prim.Native.Nat.{ℕ, _≤_, min}
 use native.Mathlib.Omega.{arith}
 use Rattle.ties.proofs.Progress.{sofar-none, sofar-more, told-next}
-use Rattle.ties.proofs.read.read_ties.Needs as need
+use Rattle.ties.proofs.decoder.read_ties.Needs as need
 
 pub loop-k-holds : need.loop-k-holds
 loop-k-holds c =
