@@ -2,3 +2,4 @@ pub mod Between
 pub mod Table
 pub mod Cycle
 pub mod Sound
+pub mod Walk

@@ -1,4 +1,5 @@
 // What networks are to each other: customer, provider or peer; both ends say the same, and no cycle of customers.
+mod cycle;
 mod matrix;
 mod relation;
 mod sound;

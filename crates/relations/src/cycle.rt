@@ -1,0 +1,2 @@
+// Cycles of customers: the search for the first of them.
+mod walk;
