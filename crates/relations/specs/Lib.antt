@@ -3,3 +3,7 @@ pub mod Table
 pub mod Cycle
 pub mod Sound
 pub mod Walk
+pub mod Trace
+pub mod Checked
+pub mod Heights
+pub mod Unique

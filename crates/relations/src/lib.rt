@@ -4,8 +4,11 @@ mod matrix;
 mod relation;
 mod sound;
 
+pub use cycle::first_is_unique;
+pub use cycle::heights_exist;
 pub use matrix::Matrix;
 pub use relation::Relation;
 pub use relation::MOST;
 pub use relation::most_networks;
 pub use sound::Relations;
+pub use sound::Unsound;

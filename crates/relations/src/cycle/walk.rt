@@ -8,7 +8,7 @@ use crate::matrix::Matrix;
 use crate::relation::MOST;
 use crate::relation::Relation;
 
-fn provides(matrix: &Matrix, from: u8, to: u8) -> bool
+pub(crate) fn provides(matrix: &Matrix, from: u8, to: u8) -> bool
     ensures { λ r. ⌜ r ≡ provider (rel (now (matrix .entry)) from to) ⌝ }
 {
     match matrix.relation(from, to) {
