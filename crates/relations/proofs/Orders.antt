@@ -16,10 +16,10 @@ smaller-cases (x ∷ xs) [] e = let z : ⊥ = omega arith in elim z [ ]
 smaller-cases (x ∷ xs) (y ∷ ys) e =
     ⊎-elim
     (λ is.
-      ⊎-elim
-      (λ same. inl (cc))
-      (λ o. ⊎-elim (λ s. inr (inl (inr (is, s)))) (λ s. inr (inr (inr (sym is, s)))) o)
-      (smaller-cases xs ys (omega arith)))
+    ⊎-elim
+    (λ same. inl (cc))
+    (λ o. ⊎-elim (λ s. inr (inl (inr (is, s)))) (λ s. inr (inr (inr (sym is, s)))) o)
+    (smaller-cases xs ys (omega arith)))
     (λ o. ⊎-elim (λ lt. inr (inl (inl lt))) (λ lt. inr (inr (inl lt))) o)
     (cases-order x y)
 
@@ -27,14 +27,14 @@ earlier-cases : (x : ℕ) (xs : List ℕ) (y : ℕ) (ys : List ℕ) → (x ∷ x
 earlier-cases x xs y ys =
     ⊎-elim
     (λ is.
-      ⊎-elim
-      (λ long.
-        ⊎-elim
-        (λ same. inl (cc))
-        (λ o. ⊎-elim (λ s. inr (inl (inr (is, inr (long, s))))) (λ s. inr (inr (inr (sym is, inr (sym long, s))))) o)
-        (smaller-cases xs ys long))
-      (λ o. ⊎-elim (λ lt. inr (inl (inr (is, inl lt)))) (λ lt. inr (inr (inr (sym is, inl lt)))) o)
-      (cases-order (length xs) (length ys)))
+    ⊎-elim
+    (λ long.
+    ⊎-elim
+    (λ same. inl (cc))
+    (λ o. ⊎-elim (λ s. inr (inl (inr (is, inr (long, s))))) (λ s. inr (inr (inr (sym is, inr (sym long, s))))) o)
+    (smaller-cases xs ys long))
+    (λ o. ⊎-elim (λ lt. inr (inl (inr (is, inl lt)))) (λ lt. inr (inr (inr (sym is, inl lt)))) o)
+    (cases-order (length xs) (length ys)))
     (λ o. ⊎-elim (λ lt. inr (inl (inl lt))) (λ lt. inr (inr (inl lt))) o)
     (cases-order x y)
 
@@ -45,6 +45,6 @@ one-first rel (x ∷ xs) (y ∷ ys) f g =
     ⊎-elim
     (λ same. same)
     (λ o.
-      let z : ⊥ = ⊎-elim (λ e. g .first (x ∷ xs) (f .cycle) (f .from-lowest) e) (λ e. f .first (y ∷ ys) (g .cycle) (g .from-lowest) e) o in
-      elim z [ ])
+    let z : ⊥ = ⊎-elim (λ e. g .first (x ∷ xs) (f .cycle) (f .from-lowest) e) (λ e. f .first (y ∷ ys) (g .cycle) (g .from-lowest) e) o in
+    elim z [ ])
     (earlier-cases x xs y ys)

@@ -58,10 +58,10 @@ module _ (rel : Between) where
       ⊎-elim
       (λ f. reach-chain k i j f)
       (λ f.
-        let g = and-parts (reach k i k) (reach k k j) f in
-        let a = reach-chain k i k (g .0) in
-        let b = reach-chain k k j (g .1) in
-        (a .0 ++ k ∷ b .0, chain-join rel (a .0) (b .0) i k j (a .1) (b .1)))
+      let g = and-parts (reach k i k) (reach k k j) f in
+      let a = reach-chain k i k (g .0) in
+      let b = reach-chain k k j (g .1) in
+      (a .0 ++ k ∷ b .0, chain-join rel (a .0) (b .0) i k j (a .1) (b .1)))
       (or-cases (reach k i j) (reach k i k && reach k k j) e)
 
   reach-more : (k i j : ℕ) → reach k i j ≡ true → reach (suc k) i j ≡ true
@@ -88,23 +88,23 @@ module _ (rel : Between) where
   reach-join (suc k) m i j h e f =
       ⊎-elim
       (λ is.
-        let to : reach k i k ≡ true = ⊎-elim (λ t. subst (λ x. reach k i x ≡ true) is t) (λ t. t .0) (reach-ways k i m e) in
-        let on : reach k k j ≡ true = ⊎-elim (λ t. subst (λ x. reach k x j ≡ true) is t) (λ t. t .1) (reach-ways k m j f) in
-        reach-over k i j to on)
+      let to : reach k i k ≡ true = ⊎-elim (λ t. subst (λ x. reach k i x ≡ true) is t) (λ t. t .0) (reach-ways k i m e) in
+      let on : reach k k j ≡ true = ⊎-elim (λ t. subst (λ x. reach k x j ≡ true) is t) (λ t. t .1) (reach-ways k m j f) in
+      reach-over k i j to on)
       (λ ne.
-        let lt : m < k = omega arith in
-        ⊎-elim
-        (λ a.
-          ⊎-elim
-          (λ b. reach-more k i j (reach-join k m i j lt a b))
-          (λ b. reach-over k i j (reach-join k m i k lt a (b .0)) (b .1))
-          (reach-ways k m j f))
-        (λ a.
-          ⊎-elim
-          (λ b. reach-over k i j (a .0) (reach-join k m k j lt (a .1) b))
-          (λ b. reach-over k i j (a .0) (b .1))
-          (reach-ways k m j f))
-        (reach-ways k i m e))
+      let lt : m < k = omega arith in
+      ⊎-elim
+      (λ a.
+      ⊎-elim
+      (λ b. reach-more k i j (reach-join k m i j lt a b))
+      (λ b. reach-over k i j (reach-join k m i k lt a (b .0)) (b .1))
+      (reach-ways k m j f))
+      (λ a.
+      ⊎-elim
+      (λ b. reach-over k i j (a .0) (reach-join k m k j lt (a .1) b))
+      (λ b. reach-over k i j (a .0) (b .1))
+      (reach-ways k m j f))
+      (reach-ways k i m e))
       (cases-eq m k)
 
   not-itself : (n i : ℕ) → NoCycle rel → reach n i i ≡ false
@@ -120,8 +120,8 @@ heights n rel both apart within acyclic =
       height = λ i. tally n (λ j. reach rel n j i);
       within = λ i h. subst (λ m. tally n (λ j. reach rel n j i) < m) (tally-all n) (tally-lt n i (λ j. reach rel n j i) (λ _. true) (λ k e. refl) h (not-itself rel n i acyclic) refl);
       falls = λ i j e.
-        let up : rel j i ≡ Provider = both i j ∙ ap opposite e in
-        let known : reach rel n j i ≡ true = reach-one rel n j i (ap provider up) in
-        let lt : j < n = among rel n j i within up in
-        tally-lt n j (λ x. reach rel n x j) (λ x. reach rel n x i) (λ x f. reach-join rel n j x i lt f known) lt (not-itself rel n j acyclic) known
+          let up : rel j i ≡ Provider = both i j ∙ ap opposite e in
+          let known : reach rel n j i ≡ true = reach-one rel n j i (ap provider up) in
+          let lt : j < n = among rel n j i within up in
+          tally-lt n j (λ x. reach rel n x j) (λ x. reach rel n x i) (λ x f. reach-join rel n j x i lt f known) lt (not-itself rel n j acyclic) known;
     }

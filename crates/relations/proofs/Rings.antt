@@ -37,7 +37,7 @@ module _ (rel : Between) (low : ℕ) where
     goes-on is =
         record {
           walk = subst (λ k. Climb rel low k v low) is (walked .real low (omega arith));
-          least = λ m c. omega (arith, walked .least m low c .1)
+          least = λ m c. omega (arith, walked .least m low c .1);
         }
 
     pub goes-not : (getD steps low 0 ≡ left → ⊥) → Climb rel low left v low → ⊥
@@ -56,12 +56,13 @@ module _ (rel : Between) (low : ℕ) where
         chain = straight (c .over) (omega (arith, c .long)) (c .chain);
         above = tt;
         long = omega (arith, c .long);
-        least = not-smaller
+        least = not-smaller;
       }
     where
       straight : (xs : List ℕ) → length xs ≤ 0 → Chain rel at xs low → rel at low ≡ Provider
       straight [] k d = d
       straight (x ∷ xs) k d = let z : ⊥ = omega arith in elim z [ ]
+
       not-smaller : (other : List ℕ) → Chain rel at other low → All (λ y. low ≤ y) other → length other ≡ 0 → Smaller other [] → ⊥
       not-smaller [] d a e s = s
       not-smaller (x ∷ xs) d a e s = s
@@ -105,7 +106,7 @@ module _ (rel : Between) where
         leads = (e, c .leads);
         goes = c .goes;
         over = (omega (arith, c .below), c .over);
-        over₂ = c .over₂
+        over₂ = c .over₂;
       }
 
   cut : (xs : List ℕ) (b i j : ℕ) → Chain rel i xs j → All (λ y. b ≤ y) xs ⊎ Cut b i j
@@ -113,15 +114,15 @@ module _ (rel : Between) where
   cut (y ∷ ys) b i j c =
       ⊎-elim
       (λ lt.
-        ⊎-elim
-        (λ all. inr (record { member = y; before = []; after = ys; below = lt; leads = c .0; goes = c .1; over = tt; over₂ = all }))
-        (λ d. inr (longer b y i y j (c .0) (omega arith) (omega arith) d))
-        (cut ys y y j (c .1)))
+      ⊎-elim
+      (λ all. inr (record { member = y; before = []; after = ys; below = lt; leads = c .0; goes = c .1; over = tt; over₂ = all }))
+      (λ d. inr (longer b y i y j (c .0) (omega arith) (omega arith) d))
+      (cut ys y y j (c .1)))
       (λ le.
-        ⊎-elim
-        (λ all. inl (le, all))
-        (λ d. inr (longer b b i y j (c .0) (omega arith) le d))
-        (cut ys b y j (c .1)))
+      ⊎-elim
+      (λ all. inl (le, all))
+      (λ d. inr (longer b b i y j (c .0) (omega arith) le d))
+      (cut ys b y j (c .1)))
       (cases-lt y b)
 
   -- each cycle can be written from its lowest member
@@ -129,14 +130,17 @@ module _ (rel : Between) where
   lowest x xs c =
       ⊎-elim
       (λ all. (x, length xs + 1, record { over = xs; chain = c; above = all; ends = omega arith; long = refl }))
-      (λ d.
-        (d .member, length (d .after ++ x ∷ d .before) + 1, record {
+      (λ d. (
+        d .member,
+        length (d .after ++ x ∷ d .before) + 1,
+        record {
           over = d .after ++ x ∷ d .before;
           chain = chain-join (d .after) (d .before) (d .member) x (d .member) (d .goes) (d .leads);
           above = all-append (λ y. d .member ≤ y) (d .after) (x ∷ d .before) (d .over₂) (omega (arith, d .below), d .over);
           ends = omega arith;
-          long = refl
-        }))
+          long = refl;
+        },
+      ))
       (cut xs x x x c)
 
   first-of : (i j : ℕ) (xs : List ℕ) → Chain rel i xs j → (y : ℕ) × (rel i y ≡ Provider)
@@ -172,8 +176,8 @@ module _ (rel : Between) where
           ⊎-elim
           (λ lt. none y (length ys + 1) lt climb)
           (λ p.
-            ⊎-elim
-            (λ lt. omega (arith, lt, l .long, short .least (length ys + 1) (subst (λ z. Climb rel z (length ys + 1) z z) (p .0) climb)))
-            (λ q. l .least ys (subst (λ z. Chain rel z ys z) (p .0) c) (subst (λ z. All (λ u. z ≤ u) ys) (p .0) f) (q .0) (q .1))
-            (p .1))
+          ⊎-elim
+          (λ lt. omega (arith, lt, l .long, short .least (length ys + 1) (subst (λ z. Climb rel z (length ys + 1) z z) (p .0) climb)))
+          (λ q. l .least ys (subst (λ z. Chain rel z ys z) (p .0) c) (subst (λ z. All (λ u. z ≤ u) ys) (p .0) f) (q .0) (q .1))
+          (p .1))
           e

@@ -52,7 +52,7 @@ module _ (rel : Between) (low : ℕ) where
         chain = chain-more (c .over) s v w (c .chain) e;
         above = all-push (λ y. low ≤ y) (c .over) v (c .above) (c .ends);
         ends = h;
-        long = omega (arith, length-push (c .over) v)
+        long = omega (arith, length-push (c .over) v);
       }
 
   chain-last : (x : ℕ) (xs : List ℕ) (s w : ℕ) → Chain rel s (x ∷ xs) w → All (λ y. low ≤ y) (x ∷ xs) → (v : ℕ) × (Climb rel low (length xs + 1) s v) × (rel v w ≡ Provider)
@@ -90,7 +90,7 @@ module _ (rel : Between) (low : ℕ) where
             added = λ w e h. let a = old .added w e h in (a .0, a .1, a .2, more (a .0) w (a .3), a .4);
             all = λ v w s h e. ⊎-elim (λ t. old .all v w t h e) (λ t. t) (back v w s e);
             fewer = old .fewer;
-            same = old .same
+            same = old .same;
           }
 
       pub spread-one : (u i : ℕ) → i < length after → 0 < step → getD after i 0 ≡ 0 → low ≤ i → rel u i ≡ Provider → S′ u i → ((v w : ℕ) → S′ v w → S v w ⊎ (w ≡ i)) → Spread rel low step S′ before (set after i step) true
@@ -101,17 +101,17 @@ module _ (rel : Between) (low : ℕ) where
           record {
             kept = λ w h. let e = old .kept w h in let ne : w ≡ i → ⊥ = λ is. let at = ap (λ k. getD after k 0) is in omega arith in there w ne ∙ e;
             added = λ w e h.
-              ⊎-elim
-              (λ is. (u, ap (λ k. getD (set after i step) k 0) is ∙ here, omega arith, subst (λ k. S′ u k) (sym is) own, subst (λ k. rel u k ≡ Provider) (sym is) up))
-              (λ ne. let same = there w ne in let a = old .added w e (omega arith) in (a .0, same ∙ a .1, a .2, more (a .0) w (a .3), a .4))
-              (cases-eq w i);
+                ⊎-elim
+                (λ is. (u, ap (λ k. getD (set after i step) k 0) is ∙ here, omega arith, subst (λ k. S′ u k) (sym is) own, subst (λ k. rel u k ≡ Provider) (sym is) up))
+                (λ ne. let same = there w ne in let a = old .added w e (omega arith) in (a .0, same ∙ a .1, a .2, more (a .0) w (a .3), a .4))
+                (cases-eq w i);
             all = λ v w s h e.
-              ⊎-elim
-              (λ is. let at = ap (λ k. getD (set after i step) k 0) is in omega arith)
-              (λ ne. let same = there w ne in ⊎-elim (λ t. let seen = old .all v w t h e in omega arith) (λ t. let z : ⊥ = ne t in elim z [ ]) (back v w s))
-              (cases-eq w i);
+                ⊎-elim
+                (λ is. let at = ap (λ k. getD (set after i step) k 0) is in omega arith)
+                (λ ne. let same = there w ne in ⊎-elim (λ t. let seen = old .all v w t h e in omega arith) (λ t. let z : ⊥ = ne t in elim z [ ]) (back v w s))
+                (cases-eq w i);
             fewer = let less = old .fewer in grind (arith, tells);
-            same = λ e. cc
+            same = λ e. cc;
           }
 
       pub spread-then : (last : List ℕ) (met₂ met₃ : Bool) (T : ℕ → ℕ → Type 0) → Spread rel low step T after last met₂ → met₃ ≡ cond met₂ true met → ((v w : ℕ) → T v w → S′ v w) → ((v w : ℕ) → S′ v w → S v w ⊎ T v w) → Spread rel low step S′ before last met₃
@@ -119,17 +119,17 @@ module _ (rel : Between) (low : ℕ) where
           record {
             kept = λ w h. let e = old .kept w h in new .kept w (omega arith) ∙ e;
             added = λ w e h.
-              ⊎-elim
-              (λ free. let a = new .added w free h in (a .0, a .1, a .2, too (a .0) w (a .3), a .4))
-              (λ ne. let same = new .kept w (omega arith) in let a = old .added w e (omega arith) in (a .0, same ∙ a .1, a .2, more (a .0) w (a .3), a .4))
-              (cases-eq (getD after w 0) 0);
+                ⊎-elim
+                (λ free. let a = new .added w free h in (a .0, a .1, a .2, too (a .0) w (a .3), a .4))
+                (λ ne. let same = new .kept w (omega arith) in let a = old .added w e (omega arith) in (a .0, same ∙ a .1, a .2, more (a .0) w (a .3), a .4))
+                (cases-eq (getD after w 0) 0);
             all = λ v w s h e.
-              ⊎-elim
-              (λ t. let seen = old .all v w t h e in let same = new .kept w seen in omega arith)
-              (λ t. new .all v w t h e)
-              (back v w s);
+                ⊎-elim
+                (λ t. let seen = old .all v w t h e in let same = new .kept w seen in omega arith)
+                (λ t. new .all v w t h e)
+                (back v w s);
             fewer = let less = old .fewer in let less₂ = new .fewer in grind (arith, tells);
-            same = λ e. let still₂ : met₂ ≡ false = grind (arith, tells) in let still : met ≡ false = grind (arith, tells) in new .same still₂ ∙ old .same still
+            same = λ e. let still₂ : met₂ ≡ false = grind (arith, tells) in let still : met ≡ false = grind (arith, tells) in new .same still₂ ∙ old .same still;
           }
 
   -- the search for the providers of one network, at network i
@@ -140,10 +140,10 @@ module _ (rel : Between) (low : ℕ) where
         (spread-skip step before after met (λ v w. (v ≡ from) × (w < i)) (λ v w. (v ≡ from) × (w < i + 1)) old
         (λ v w h. (h .0, omega (arith, h .1)))
         (λ v w h e.
-          ⊎-elim
-          (λ is. inr (⊎-elim (λ seen. subst (λ k. 0 < getD after k 0) (sym is) seen) (λ none. let z : ⊥ = none (ap (λ k. rel k i) (sym (h .0)) ∙ ap (λ k. rel v k) (sym is) ∙ e) in elim z [ ]) why))
-          (λ ne. inl (h .0, omega (arith, h .1)))
-          (cases-eq w i)))
+        ⊎-elim
+        (λ is. inr (⊎-elim (λ seen. subst (λ k. 0 < getD after k 0) (sym is) seen) (λ none. let z : ⊥ = none (ap (λ k. rel k i) (sym (h .0)) ∙ ap (λ k. rel v k) (sym is) ∙ e) in elim z [ ]) why))
+        (λ ne. inl (h .0, omega (arith, h .1)))
+        (cases-eq w i)))
 
     pub meet-yes : (last : List ℕ) (met₂ : Bool) → last ≡ set after i step → met₂ ≡ true → i < length after → 0 < step → getD after i 0 ≡ 0 → low ≤ i → rel from i ≡ Provider → Spread rel low step (λ v w. (v ≡ from) × (w < i + 1)) before last met₂
     meet-yes last met₂ is is₂ in′ some free high up =
@@ -161,10 +161,10 @@ module _ (rel : Between) (low : ℕ) where
         (spread-skip (level + 1) before after met (λ v w. (getD before v 0 ≡ level) × (v < i)) (λ v w. (getD before v 0 ≡ level) × (v < i + 1)) old
         (λ v w h. (h .0, omega (arith, h .1)))
         (λ v w h e.
-          ⊎-elim
-          (λ is. let at = ap (λ k. getD before k 0) is in let same = old .kept i (omega (arith, h .0)) in let z : ⊥ = other (omega (arith, h .0)) in elim z [ ])
-          (λ ne. inl (h .0, omega (arith, h .1)))
-          (cases-eq v i)))
+        ⊎-elim
+        (λ is. let at = ap (λ k. getD before k 0) is in let same = old .kept i (omega (arith, h .0)) in let z : ⊥ = other (omega (arith, h .0)) in elim z [ ])
+        (λ ne. inl (h .0, omega (arith, h .1)))
+        (cases-eq v i)))
 
     was : getD after i 0 ≡ level → getD before i 0 ≡ level
     was is =
@@ -189,22 +189,22 @@ module _ (rel : Between) (low : ℕ) where
         ⊎-elim
         (λ is. spread .all v w is h e)
         (λ ne.
-          let old = known .real v seen in
-          let up = known .least (getD before v 0 + 1) w (omega (arith, old .1)) (climb-more (getD before v 0) s v w (old .0) h e) in
-          omega (arith, spread .kept w (up .0), up .0))
+        let old = known .real v seen in
+        let up = known .least (getD before v 0 + 1) w (omega (arith, old .1)) (climb-more (getD before v 0) s v w (old .0) h e) in
+        omega (arith, spread .kept w (up .0), up .0))
         (cases-eq (getD before v 0) level)
 
     real-next : (w : ℕ) → 0 < getD after w 0 → Climb rel low (getD after w 0) s w × (getD after w 0 ≤ level + 1)
     real-next w seen =
         ⊎-elim
         (λ new.
-          let a = spread .added w new seen in
-          let old = known .real (a .0) (omega (arith, a .3)) in
-          (subst (λ n. Climb rel low n s w) (ap (λ n. n + 1) (a .3) ∙ sym (a .1)) (climb-more (getD before (a .0) 0) s (a .0) w (old .0) (a .2) (a .4)), omega (arith, a .1)))
+        let a = spread .added w new seen in
+        let old = known .real (a .0) (omega (arith, a .3)) in
+        (subst (λ n. Climb rel low n s w) (ap (λ n. n + 1) (a .3) ∙ sym (a .1)) (climb-more (getD before (a .0) 0) s (a .0) w (old .0) (a .2) (a .4)), omega (arith, a .1)))
         (λ ne.
-          let same = spread .kept w (omega arith) in
-          let old = known .real w (omega arith) in
-          (subst (λ n. Climb rel low n s w) (sym same) (old .0), omega (arith, old .1, same)))
+        let same = spread .kept w (omega arith) in
+        let old = known .real w (omega arith) in
+        (subst (λ n. Climb rel low n s w) (sym same) (old .0), omega (arith, old .1, same)))
         (cases-eq (getD before w 0) 0)
 
     pub known-next : Known rel low (level + 1) s after
@@ -212,14 +212,14 @@ module _ (rel : Between) (low : ℕ) where
         record {
           real = real-next;
           least = λ m w h c.
-            ⊎-elim
-            (λ le. let old = known .least m w (omega arith) c in let same = spread .kept w (old .0) in (omega (arith, old .0, same), omega (arith, old .1, same)))
-            (λ gt.
+              ⊎-elim
+              (λ le. let old = known .least m w (omega arith) c in let same = spread .kept w (old .0) in (omega (arith, old .0, same), omega (arith, old .1, same)))
+              (λ gt.
               let is : m ≡ level + 1 = omega arith in
               let r = climb-last level s w some (subst (λ n. Climb rel low n s w) is c) in
               let seen = met-next (r .0) w (known .least level (r .0) (omega arith) (r .1) .0) (c .ends) (r .2) in
               (seen, omega (arith, real-next w seen .1)))
-            (cases-lt m (level + 1))
+              (cases-lt m (level + 1));
         }
 
     seen-all : after ≡ before → (m w : ℕ) → Climb rel low m s w → (0 < getD before w 0) × (getD before w 0 ≤ m)
@@ -228,10 +228,10 @@ module _ (rel : Between) (low : ℕ) where
         ⊎-elim
         (λ le. known .least (suc m) w (omega arith) c)
         (λ gt.
-          let r = climb-last m s w (omega arith) (subst (λ n. Climb rel low n s w) (omega arith) c) in
-          let old = seen-all same m (r .0) (r .1) in
-          let seen = subst (λ l. 0 < getD l w 0) same (met-next (r .0) w (old .0) (c .ends) (r .2)) in
-          (seen, omega (arith, known .real w seen .1)))
+        let r = climb-last m s w (omega arith) (subst (λ n. Climb rel low n s w) (omega arith) c) in
+        let old = seen-all same m (r .0) (r .1) in
+        let seen = subst (λ l. 0 < getD l w 0) same (met-next (r .0) w (old .0) (c .ends) (r .2)) in
+        (seen, omega (arith, known .real w seen .1)))
         (cases-lt m level)
 
     -- a level that meets none is the last
@@ -246,8 +246,8 @@ module _ (rel : Between) (low : ℕ) where
       record {
         real = λ w seen. let f = first w seen in (subst (λ n. Climb rel low n s w) (sym (f .0)) (f .1), omega (arith, f .0));
         least = λ m w h c.
-          let seen : 0 < getD after w 0 = spread .all s w refl (c .ends) (only (c .over) w m (c .long) h (c .chain)) in
-          (seen, omega (arith, first w seen .0, c .long))
+            let seen : 0 < getD after w 0 = spread .all s w refl (c .ends) (only (c .over) w m (c .long) h (c .chain)) in
+            (seen, omega (arith, first w seen .0, c .long));
       }
     where
       only : (xs : List ℕ) (w m : ℕ) → length xs + 1 ≡ m → m ≤ 1 → Chain rel s xs w → rel s w ≡ Provider

@@ -36,7 +36,14 @@ fn next_up(matrix: &Matrix, low: u8, at: u8, left: u8, steps: &mut [u8]) -> u8
 }
 
 // Adds to the ring the networks by which `left` steps lead from `at` up to `low`.
-fn trace(matrix: &Matrix, low: u8, at: u8, left: u8, steps: &mut [u8], ring: &mut Vec<u8>) -> Result<(), AllocError>
+fn trace(
+    matrix: &Matrix,
+    low: u8,
+    at: u8,
+    left: u8,
+    steps: &mut [u8],
+    ring: &mut Vec<u8>,
+) -> Result<(), AllocError>
     requires long { ⌜ length (now steps) ≡ 64 ⌝ }
     requires some { ⌜ low < 64 ⌝ }
     requires short { ⌜ Shortest (rel (now matrix)) low left at low ⌝ }

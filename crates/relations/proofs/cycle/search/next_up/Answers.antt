@@ -22,8 +22,8 @@ returns-then-steps-low c =
 here : (c : need.Joined-provides) → rel (c .args .matrix .now) (c .args .at) (c .loop-v .v) ≡ Provider → Climb (rel (c .args .matrix .now)) (c .args .low) (c .args .left) (c .loop-v .v) (c .args .low) → ⊥
 here c up walk =
     elim (c .if-provides .came) [
-      then-provides·else-steps-low w ↦ goes-not _ _ _ _ _ _ (c .pre .some .1) (c .pre .short) up (c .loop-v .kept .v) (w .walk-up .ensures) (w .if-steps-low .left) walk
-    | else-provides w ↦ not-provider _ (sym (w .if-provides .ensures tt)) up
+      | then-provides·else-steps-low w ↦ goes-not _ _ _ _ _ _ (c .pre .some .1) (c .pre .short) up (c .loop-v .kept .v) (w .walk-up .ensures) (w .if-steps-low .left) walk
+      | else-provides w ↦ not-provider _ (sym (w .if-provides .ensures tt)) up
     ]
 
 pub loop-v-again : need.loop-v-again

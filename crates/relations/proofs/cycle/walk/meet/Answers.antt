@@ -12,14 +12,14 @@ loop-w-holds c = spread-none _ _ _ _ _ (λ v w h high. omega (arith, h .1))
 pub loop-w-again : need.loop-w-again
 loop-w-again c =
     elim (c .if-steps-w-eq0 .came) [
-      then-steps-w-eq0·then-provides w ↦
-        meet-yes _ _ _ _ _ _ _ _ (c .loop-w .inv) _ _ (w .steps-is) (w .met-is) (omega arith) (c .pre .some) (w .if-steps-w-eq0 .taken) (omega arith) (is-provider _ (sym (w .if-provides .ensures tt)))
-    | else-steps-w-eq0 w ↦
-        meet-no _ _ _ _ _ _ _ _ (c .loop-w .inv) _ _ (w .steps-is) (w .met-is)
-        (elim (w .else-steps-w-eq0 .came) [
-          else-steps-w-eq0·by·then-steps-w-eq0·else-provides w′ ↦ inr (not-provider _ (sym (w′ .if-provides .ensures tt)))
-        | else-steps-w-eq0·by·else-steps-w-eq0 w′ ↦ inl (omega (arith, w′ .if-steps-w-eq0 .left))
-        ])
+      | then-steps-w-eq0·then-provides w ↦
+          meet-yes _ _ _ _ _ _ _ _ (c .loop-w .inv) _ _ (w .steps-is) (w .met-is) (omega arith) (c .pre .some) (w .if-steps-w-eq0 .taken) (omega arith) (is-provider _ (sym (w .if-provides .ensures tt)))
+      | else-steps-w-eq0 w ↦
+          meet-no _ _ _ _ _ _ _ _ (c .loop-w .inv) _ _ (w .steps-is) (w .met-is)
+          (elim (w .else-steps-w-eq0 .came) [
+            | else-steps-w-eq0·by·then-steps-w-eq0·else-provides w′ ↦ inr (not-provider _ (sym (w′ .if-provides .ensures tt)))
+            | else-steps-w-eq0·by·else-steps-w-eq0 w′ ↦ inl (omega (arith, w′ .if-steps-w-eq0 .left))
+          ])
     ]
 
 pub returns : need.returns

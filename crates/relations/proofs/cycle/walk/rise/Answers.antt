@@ -13,15 +13,15 @@ loop-v-holds c = spread-none _ _ _ _ _ (λ v w h high. omega (arith, h .1))
 pub loop-v-again : need.loop-v-again
 loop-v-again c =
     elim (c .if-steps-v .came) [
-      then-steps-v·then-meet w ↦
-        rw (w .steps-is) (rise-yes _ _ _ _ _ _ _ (c .pre .some .0) (c .loop-v .inv) _ _ _ (w .if-steps-v .taken) (w .meet .ensures) (w .met-is ∙ ap (λ b. cond b true (c .loop-v .met)) (sym (w .if-meet .taken))))
-    | else-steps-v w ↦
-        elim (w .else-steps-v .came) [
-          else-steps-v·by·then-steps-v·else-meet w′ ↦
-            rw (w .steps-is, w′ .steps-is) (rise-yes _ _ _ _ _ _ _ (c .pre .some .0) (c .loop-v .inv) _ _ _ (w′ .if-steps-v .taken) (w′ .meet .ensures) (w .met-is ∙ ap (λ b. cond b true (c .loop-v .met)) (sym (w′ .if-meet .left))))
-        | else-steps-v·by·else-steps-v w′ ↦
-            rise-no _ _ _ _ _ _ _ (c .pre .some .0) (c .loop-v .inv) _ _ (w .steps-is ∙ w′ .steps-is) (w .met-is) (w′ .if-steps-v .left)
-        ]
+      | then-steps-v·then-meet w ↦
+          rw (w .steps-is) (rise-yes _ _ _ _ _ _ _ (c .pre .some .0) (c .loop-v .inv) _ _ _ (w .if-steps-v .taken) (w .meet .ensures) (w .met-is ∙ ap (λ b. cond b true (c .loop-v .met)) (sym (w .if-meet .taken))))
+      | else-steps-v w ↦
+          elim (w .else-steps-v .came) [
+            | else-steps-v·by·then-steps-v·else-meet w′ ↦
+                rw (w .steps-is, w′ .steps-is) (rise-yes _ _ _ _ _ _ _ (c .pre .some .0) (c .loop-v .inv) _ _ _ (w′ .if-steps-v .taken) (w′ .meet .ensures) (w .met-is ∙ ap (λ b. cond b true (c .loop-v .met)) (sym (w′ .if-meet .left))))
+            | else-steps-v·by·else-steps-v w′ ↦
+                rise-no _ _ _ _ _ _ _ (c .pre .some .0) (c .loop-v .inv) _ _ (w .steps-is ∙ w′ .steps-is) (w .met-is) (w′ .if-steps-v .left)
+          ]
     ]
 
 pub returns : need.returns
