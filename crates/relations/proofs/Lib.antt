@@ -1,1 +1,5 @@
 mod Tables
+mod Walks
+mod Rings
+mod Reach
+mod Orders

@@ -19,7 +19,10 @@ impl Matrix {
         ensures { λ r. ⌜ made r (λ m. (count m ≡ min networks 64) × ((i j : ℕ) → rel m i j ≡ unrelated i j)) ⌝ }
     {
         let rows = vec![in heap; Relation::Unrelated; 4096]?;
-        Ok(Matrix { networks: networks.min(MOST), rows })
+        Ok(Matrix {
+            networks: networks.min(MOST),
+            rows,
+        })
     }
 
     // How many networks there are.
