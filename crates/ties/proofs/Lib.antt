@@ -4,3 +4,5 @@ mod Upto
 mod Decoded
 mod Encoded
 mod Written
+mod Answered
+mod Back

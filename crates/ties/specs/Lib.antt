@@ -3,3 +3,4 @@ pub mod Faults
 pub mod Encoding
 pub mod Steps
 pub mod Outcome
+pub mod Laws

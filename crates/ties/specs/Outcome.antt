@@ -16,6 +16,7 @@ use Rattle.ties.specs.declared.refusal.Place.the-variants.{Head, Tie, End}
 use Rattle.ties.specs.declared.refusal.Refusal.{Refusal}
 use Rattle.ties.specs.declared.refusal.Refusal.the-variants.{Fault, Cycle, Memory}
 use Rattle.ties.specs.File.{networks, ties, after}
+use Rattle.ties.specs.Encoding.{encoding}
 use Rattle.ties.specs.Faults.{CleanTies, TieFault, Faultless, FirstFault}
 
 abbrev pub AtPlace : List ℕ → Place → Cause → Type 0
@@ -32,3 +33,21 @@ AtTie bs Memory = Unit {0}
 abbrev pub TiesRead : List ℕ → Result Matrix Refusal → Type 0
 TiesRead bs (Ok m) = CleanTies bs (ties bs) × (count m ≡ networks bs) × ((i j : ℕ) → rel m i j ≡ after bs (ties bs) i j)
 TiesRead bs (Err r) = AtTie bs r
+
+-- the refusal: the first thing with a fault, or the cycle that is told of a file with no other fault
+abbrev pub Refused : ℕ → List ℕ → Refusal → Type 0
+Refused most bs (Fault p c) = FirstFault most bs p c
+Refused most bs (Cycle ring) = Faultless most bs × First (after bs (ties bs)) (vec-items ring)
+Refused most bs Memory = Unit {0}
+
+-- the relations that are read
+pub record Accepted (most : ℕ) (bs : List ℕ) (r : Relations) : Type 0 where
+  pub faultless : Faultless most bs
+  pub count : networks-of r ≡ networks bs
+  pub says : (i j : ℕ) → relation-of r i j ≡ after bs (ties bs) i j
+  pub encodes : bs ≡ encoding (networks-of r) (relation-of r)
+
+-- what reading answers, where the caller allows `most` networks
+abbrev pub Read : ℕ → List ℕ → Result Relations Refusal → Type 0
+Read most bs (Ok r) = Accepted most bs r
+Read most bs (Err e) = Refused most bs e

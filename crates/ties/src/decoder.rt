@@ -1,17 +1,19 @@
 // Reading a ties file.
 ghost use mathlib.Core.Path.{_≡_};
 ghost use Prim.Native.Nat.{_+_, _*_, _≤_};
-ghost use Rattle.std.specs.Results.{isOk};
 ghost use Rattle.wire.specs.Reading.{input, place};
 ghost use Rattle.ties.specs.File.{networks as networks-in, ties as ties-in};
-ghost use Rattle.ties.specs.Outcome.{TiesRead};
+ghost use Rattle.ties.specs.Outcome.{Read, TiesRead};
 ghost use Rattle.std.specs.Vec.{made};
+use crate::refusal::Cause;
 use crate::refusal::Place;
 use crate::refusal::Refusal;
 use crate::refusal::RefusalFromAlloc;
 use crate::tie::Head;
 use crate::tie::Tie;
 use relations::Matrix;
+use relations::Relations;
+use relations::Unsound;
 use std::alloc::Global;
 use wire::Reader;
 
@@ -39,4 +41,28 @@ fn read_ties(reader: &mut Reader, head: Head, heap: Global) -> Result<Matrix, Re
         last = Some(tie);
     }
     Ok(matrix)
+}
+
+// The relations that a ties file says, where the caller allows `most` networks.
+pub fn read(bytes: &[u8], most: u8, heap: Global) -> Result<Relations, Refusal>
+    ensures { λ r. ⌜ Read most (now (bytes .entry)) r ⌝ }
+{
+    let mut reader = Reader::new(bytes);
+    let head = match Head::read(&mut reader, most) {
+        Ok(head) => head,
+        Err(cause) => {
+            let place = Place::Head;
+            return Err(Refusal::Fault { place, cause });
+        }
+    };
+    let matrix = read_ties(&mut reader, head, heap)?;
+    if !reader.at_end() {
+        let place = Place::End;
+        return Err(Refusal::Fault { place, cause: Cause::Surplus });
+    }
+    match matrix.sound(heap) {
+        Ok(relations) => Ok(relations),
+        Err(Unsound::Cycle(ring)) => Err(Refusal::Cycle(ring)),
+        Err(Unsound::Memory) => Err(Refusal::Memory),
+    }
 }

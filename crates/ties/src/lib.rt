@@ -1,10 +1,16 @@
 // The ties file: relations between networks as bytes, read exactly and written.
 mod decoder;
 mod encoder;
+mod laws;
 mod refusal;
 mod tie;
 
+pub use decoder::read;
 pub use encoder::encode;
+pub use laws::encoded_is_faultless;
+pub use laws::faultless_is_encoded;
+pub use laws::what_is_encoded_reads_back;
+pub use laws::what_is_read_encodes_back;
 pub use refusal::Cause;
 pub use refusal::Place;
 pub use refusal::Refusal;
