@@ -1,0 +1,4 @@
+// Text that the programs print: numbers in a row.
+mod numbers;
+
+pub use numbers::push_numbers;
