@@ -1,4 +1,5 @@
 mod Causes
+mod Joins
 mod Progress
 mod Upto
 mod Decoded

@@ -4,3 +4,4 @@ pub mod Encoding
 pub mod Steps
 pub mod Outcome
 pub mod Laws
+pub mod Words

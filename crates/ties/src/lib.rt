@@ -4,6 +4,7 @@ mod encoder;
 mod laws;
 mod refusal;
 mod tie;
+mod wording;
 
 pub use decoder::read;
 pub use encoder::encode;
