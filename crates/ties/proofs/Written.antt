@@ -39,3 +39,11 @@ length-listed Provider i j = omega arith
 pub listing-short : (n : ℕ) (rel : Between) → n ≤ 64 → length (listing n rel) ≤ 4096
 listing-short n rel few =
     omega (arith, length-upto (row n rel) 64 n (λ i. omega (arith, length-upto (λ j. listed (rel i j) i j) 1 n (λ j. length-listed (rel i j) i j))))
+
+pub length-upto-more : {X : Type 0} (f : ℕ → List X) (k a b : ℕ) → a ≡ length (upto f k) → b ≡ length (f k) → a + b ≡ length (upto f (k + 1))
+unfolding upto
+length-upto-more f k a b e g = (λ i. e i + g i) ∙ sym (length-append (upto f k) (f k)) ∙ ap (λ m. length (upto f m)) (sym (add-one k))
+
+pub length-upto-none : {X : Type 0} (f : ℕ → List X) → 0 ≡ length (upto f 0)
+unfolding upto
+length-upto-none f = refl

@@ -2,8 +2,10 @@
 use mathlib.Core.List.{List, _++_}
 use Prim.Native.Nat.{ℕ}
 use lib.Chars.{codes}
+use lib.ListN.{length}
 use Rattle.std.specs.Of.Vec.{vec-items}
 use Rattle.std.specs.Written.{decimal}
+use Rattle.relations.specs.Between.{Between}
 use Rattle.text.specs.Row.{spelled}
 use Rattle.ties.specs.declared.refusal.Cause.{Cause}
 use Rattle.ties.specs.declared.refusal.Cause.the-variants.{UnknownKind, Cut, Surplus, NoSuchNetwork, BadCount, NotRising, SamePair, PeersTurned, Itself, TooMany}
@@ -11,6 +13,7 @@ use Rattle.ties.specs.declared.refusal.Place.{Place}
 use Rattle.ties.specs.declared.refusal.Place.the-variants.{Head, Tie, End}
 use Rattle.ties.specs.declared.refusal.Refusal.{Refusal}
 use Rattle.ties.specs.declared.refusal.Refusal.the-variants.{Fault, Cycle, Memory}
+use Rattle.ties.specs.Encoding.{listing}
 use Rattle.ties.specs.Faults.{number}
 
 abbrev pub cause-words : Cause → List ℕ
@@ -38,3 +41,7 @@ abbrev pub words : Refusal → List ℕ
 words (Fault p c) = fault-words p c
 words (Cycle ring) = codes "fault 5 at end: a ring of customers: " ++ spelled (vec-items ring)
 words Memory = codes "out of memory"
+
+-- what is told of sound relations
+abbrev pub summary-words : ℕ → Between → List ℕ
+summary-words n rel = decimal n ++ (codes " networks, " ++ (decimal (length (listing n rel)) ++ codes " ties, sound"))

@@ -3,6 +3,7 @@ mod decoder;
 mod encoder;
 mod laws;
 mod refusal;
+mod account;
 mod tie;
 mod wording;
 
@@ -15,3 +16,5 @@ pub use laws::what_is_read_encodes_back;
 pub use refusal::Cause;
 pub use refusal::Place;
 pub use refusal::Refusal;
+pub use account::count_ties;
+pub use account::summary;
