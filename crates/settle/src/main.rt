@@ -1,0 +1,108 @@
+// settle TIES: reads a ties file, and says whether it is sound.
+use relations::MOST;
+use std::alloc::AllocError;
+use std::alloc::Global;
+use std::env;
+use std::fmt;
+use std::fs;
+use std::io;
+use std::io::Read;
+
+const USAGE: &str = "usage: settle TIES   (a ties file, or - for standard input)";
+
+// What ends the program with status 1.
+#[derive(Drop)]
+enum Failure {
+    // a line for the user
+    Told(String),
+    // no memory, or nothing could be written
+    Silent,
+}
+
+impl From<io::Error> for Failure as FailureFromIo {
+    fn from(_e: io::Error) -> Failure {
+        Failure::Silent
+    }
+}
+
+impl From<fmt::Error> for Failure as FailureFromFmt {
+    fn from(_e: fmt::Error) -> Failure {
+        Failure::Silent
+    }
+}
+
+impl From<AllocError> for Failure as FailureFromAlloc {
+    fn from(_e: AllocError) -> Failure {
+        Failure::Silent
+    }
+}
+
+fn told(heap: Global, line: &str) -> Failure {
+    match String::from_str(heap, line) {
+        Ok(line) => Failure::Told(line),
+        Err(_) => Failure::Silent,
+    }
+}
+
+fn unreadable(heap: Global, path: &str, e: io::Error) -> Failure {
+    match format!(heap, "{path}: {e}") {
+        Ok(line) => Failure::Told(line),
+        Err(_) => Failure::Silent,
+    }
+}
+
+// The bytes of a file, or of standard input where the path is `-`.
+fn load(rt: &LibcRuntime, path: &str) -> Result<Vec<u8>, Failure> {
+    let heap = rt.alloc();
+    if path == "-" {
+        let mut bytes = Vec::new(heap);
+        rt.stdin().read_to_end(&mut bytes)?;
+        return Ok(bytes);
+    }
+    match fs::read(rt, path) {
+        Ok(bytes) => Ok(bytes),
+        Err(e) => Err(unreadable(heap, path, e)),
+    }
+}
+
+fn check(rt: &LibcRuntime, path: &str) -> Result<(), Failure> {
+    let heap = rt.alloc();
+    let bytes = load(rt, path)?;
+    match ties::read(bytes.as_slice(), MOST, heap) {
+        Ok(relations) => {
+            let line = ties::summary(&relations, heap)?;
+            println!(rt, "{line}")?;
+            Ok(())
+        }
+        Err(refusal) => {
+            let line = refusal.describe(heap)?;
+            Err(Failure::Told(format!(heap, "ties: {line}")?))
+        }
+    }
+}
+
+fn run(rt: &LibcRuntime) -> Result<(), Failure> {
+    let mut args = env::args(rt)?;
+    let _program = args.next();
+    let Some(path) = args.next() else {
+        return Err(told(rt.alloc(), USAGE));
+    };
+    if args.next().is_some() {
+        return Err(told(rt.alloc(), USAGE));
+    }
+    check(rt, path.as_str())
+}
+
+fn main(rt: LibcRuntime) -> Result<(), Failure> {
+    let result = run(&rt);
+    match &result {
+        Err(Failure::Told(line)) => {
+            let _ = eprintln!(rt, "settle: {line}");
+        }
+        Err(Failure::Silent) => {
+            let _ = eprintln!(rt, "settle: out of memory, or the output is closed");
+        }
+        Ok(()) => {}
+    }
+    result
+}
