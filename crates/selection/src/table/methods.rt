@@ -1,0 +1,55 @@
+// Making, reading and writing the table.
+ghost use mathlib.Core.Path.{_≡_};
+ghost use mathlib.Core.Bool.{_&&_};
+ghost use Prim.Native.Nat.{ℕ, min};
+ghost use lib.Dec.{leb, ltb};
+ghost use lib.ListN.{getD, length};
+ghost use Rattle.std.specs.Options.{mapped};
+ghost use Rattle.std.specs.Of.Vec.{vec-items, vec-len};
+ghost use Rattle.std.specs.Orderings.{When};
+ghost use Rattle.std.specs.Vec.{made};
+ghost use Rattle.std.specs.declared.option.Option.the-variants.{None, Some};
+ghost use Rattle.selection.specs.Paths.{count, row};
+ghost use Rattle.selection.specs.Rows.{with-row, written};
+use crate::table::PathTable;
+use relations::MOST;
+use std::alloc::AllocError;
+use std::alloc::Global;
+
+// The most blocks that a table has rows for.
+const MOST_BLOCKS: u16 = 256;
+
+impl PathTable {
+    // No path is told. Of more than 256 blocks the first 256 are taken.
+    pub fn new(heap: Global, blocks: u16) -> Result<PathTable, AllocError>
+        ensures { λ r. ⌜ made r (λ t. (count t ≡ min blocks 256) × ((b j : ℕ) → row t b j ≡ None)) ⌝ }
+    {
+        let blocks = blocks.min(MOST_BLOCKS);
+        let lengths = vec![in heap; 0; blocks as usize * 64]?;
+        let cells = vec![in heap; 0; blocks as usize * 4096]?;
+        Ok(PathTable { blocks, lengths, cells })
+    }
+
+    // How many blocks there are.
+    pub fn blocks(&self) -> u16
+        ensures { λ r. ⌜ r ≡ count (now (self .entry)) ⌝ }
+    {
+        self.blocks
+    }
+
+    // The path for `block` that `neighbour` told, as the part of the table where it stands.
+    pub fn path(&self, block: u16, neighbour: u8) -> Option<&[u8]>
+        ensures { λ r. ⌜ mapped now r ≡ row (now (self .entry)) block neighbour ⌝ }
+    {
+        if block >= self.blocks || neighbour >= MOST {
+            return None;
+        }
+        let row = block as usize * 64 + neighbour as usize;
+        let length = self.lengths[row] as usize;
+        if length == 0 {
+            return None;
+        }
+        let cells = self.cells.as_slice();
+        Some(&cells[row * 64..row * 64 + length])
+    }
+}
