@@ -66,7 +66,7 @@ candidate rel up me says j = cond (related (rel j) && up j) (heard me (says j)) 
 abbrev pub better : Order → Choice → ℕ → Option (List ℕ) → Choice
 better first best j None = best
 better first nothing j (Some p) = via j p
-better first local j (Some p) = local
+better first local j (Some p) = via j p
 better first (via k q) j (Some p) = cond (first j p k q) (via j p) (via k q)
 
 -- the best of the candidates of 0 to k - 1

@@ -5,7 +5,7 @@ ghost use mathlib.Core.List.{[], _∷_};
 ghost use lib.ListN.{getD, length};
 ghost use Rattle.std.specs.Options.{mapped};
 ghost use Rattle.relations.specs.Sound.{networks as networks-of, relation as relation-of};
-ghost use Rattle.selection.specs.Choosing.{candidate as candidate-of, choose, meaning, passes as passes-by, rank as rank-of, shorter};
+ghost use Rattle.selection.specs.Choosing.{candidate as candidate-of, choose, meaning, passes as passes-by, rank as rank-of, related, shorter};
 ghost use Rattle.selection.specs.Paths.{row};
 use crate::route::Route;
 use crate::table::PathTable;
@@ -24,6 +24,12 @@ fn rank(relation: Relation) -> u8
     }
 }
 
+fn is_related(relation: Relation) -> bool
+    ensures { λ r. ⌜ r ≡ related relation ⌝ }
+{
+    !matches!(relation, Relation::Unrelated)
+}
+
 // Whether the path passes the network `me`.
 fn passes(path: &[u8], me: u8) -> bool
     ensures { λ r. ⌜ r ≡ passes-by me (now (path .entry)) ⌝ }
@@ -36,12 +42,19 @@ fn passes(path: &[u8], me: u8) -> bool
     false
 }
 
+// Whether the link to the neighbour is up.
+fn is_up(up: &[bool], neighbour: u8) -> bool
+    ensures { λ r. ⌜ r ≡ getD (now (up .entry)) neighbour false ⌝ }
+{
+    let at = neighbour as usize;
+    at < up.len() && up[at]
+}
+
 // The path by `neighbour` that `me` may go by, if any.
 fn candidate<'a>(relations: &Relations, up: &[bool], received: &'a PathTable, me: u8, block: u16, neighbour: u8) -> Option<&'a [u8]>
     ensures { λ r. ⌜ mapped now r ≡ candidate-of (relation-of (now (relations .entry)) me) (λ j. getD (now (up .entry)) j false) me (λ j. row (now (received .entry)) block j) neighbour ⌝ }
 {
-    let at = neighbour as usize;
-    if matches!(relations.relation(me, neighbour), Relation::Unrelated) || at >= up.len() || !up[at] {
+    if !is_related(relations.relation(me, neighbour)) || !is_up(up, neighbour) {
         return None;
     }
     let path = received.path(block, neighbour)?;

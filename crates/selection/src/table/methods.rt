@@ -1,7 +1,7 @@
 // Making, reading and writing the table.
 ghost use mathlib.Core.Path.{_≡_};
 ghost use mathlib.Core.Bool.{_&&_};
-ghost use Prim.Native.Nat.{ℕ, min};
+ghost use Prim.Native.Nat.{ℕ, _*_, _+_, _≤_, min};
 ghost use lib.Dec.{leb, ltb};
 ghost use lib.ListN.{getD, length};
 ghost use Rattle.std.specs.Options.{mapped};
@@ -51,5 +51,46 @@ impl PathTable {
         }
         let cells = self.cells.as_slice();
         Some(&cells[row * 64..row * 64 + length])
+    }
+
+    // From now on `path` is the path for `block` that `neighbour` told. False, and nothing done, for a path of no
+    // network or of more than 64, and for a block or a neighbour that there is not.
+    pub fn set(&mut self, block: u16, neighbour: u8, path: &[u8]) -> bool
+        ensures test { λ r. ⌜ r ≡ (ltb block (count (now (self .entry))) && ltb neighbour 64 && ltb 0 (length (now (path .entry))) && leb (length (now (path .entry))) 64) ⌝ }
+        ensures same { λ _. ⌜ count (now (self .exit)) ≡ count (now (self .entry)) ⌝ }
+        ensures after { λ r. ⌜ When r ((b j : ℕ) → row (now (self .exit)) b j ≡ with-row (row (now (self .entry))) block neighbour (Some (now (path .entry))) b j) (now (self .exit) ≡ now (self .entry)) ⌝ }
+    {
+        if block >= self.blocks || neighbour >= MOST || path.len() == 0 || path.len() > 64 {
+            return false;
+        }
+        let row = block as usize * 64 + neighbour as usize;
+        self.lengths[row] = path.len() as u8;
+        write_row(&mut self.cells, row, path);
+        true
+    }
+
+    // From now on `neighbour` told nothing for `block`.
+    pub fn clear(&mut self, block: u16, neighbour: u8)
+        ensures same { λ _. ⌜ count (now (self .exit)) ≡ count (now (self .entry)) ⌝ }
+        ensures after { λ _. ⌜ ((b j : ℕ) → row (now (self .exit)) b j ≡ with-row (row (now (self .entry))) block neighbour None b j) ⌝ }
+    {
+        if block >= self.blocks || neighbour >= MOST {
+            return;
+        }
+        let row = block as usize * 64 + neighbour as usize;
+        self.lengths[row] = 0;
+        write_row(&mut self.cells, row, &[]);
+    }
+}
+
+// Writes the path into its row, and zeros past it.
+fn write_row(cells: &mut Vec<u8>, row: usize, path: &[u8])
+    requires { ⌜ row * 64 + 64 ≤ vec-len (now cells) ⌝ }
+    ensures len { λ _. ⌜ vec-len (now (cells .exit)) ≡ vec-len (now (cells .entry)) ⌝ }
+    ensures places { λ _. ⌜ ((q : ℕ) → getD (vec-items (now (cells .exit))) q 0 ≡ written (vec-items (now (cells .entry))) row (now (path .entry)) q) ⌝ }
+{
+    for k in 0..64 {
+        let network = if k < path.len() { path[k] } else { 0 };
+        cells[row * 64 + k] = network;
     }
 }
