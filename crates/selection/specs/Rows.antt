@@ -20,9 +20,9 @@ Padded lengths cells = (q : ℕ) → getD lengths (q / 64) 0 ≤ q % 64 → getD
 abbrev pub told : List ℕ → List ℕ → ℕ → Option (List ℕ)
 told lengths cells r = cond (eqb (getD lengths r 0) 0) None (Some (take (getD lengths r 0) (drop (r * 64) cells)))
 
--- the place q of the cells after row r was written: the path, and zero past it
-abbrev pub written : List ℕ → ℕ → List ℕ → ℕ → ℕ
-written cells r path q = cond (leb (r * 64) q && ltb q (r * 64 + 64)) (getD path (q - r * 64) 0) (getD cells q 0)
+-- the place q of the cells after the first k places of row r were written: the path, and zero past it
+abbrev pub written : List ℕ → ℕ → List ℕ → ℕ → ℕ → ℕ
+written cells r path k q = cond (leb (r * 64) q && ltb q (r * 64 + k)) (getD path (q - r * 64) 0) (getD cells q 0)
 
 -- what each row says, by block and neighbour
 abbrev pub Rows : Type 0

@@ -87,7 +87,7 @@ impl PathTable {
 fn write_row(cells: &mut Vec<u8>, row: usize, path: &[u8])
     requires { ⌜ row * 64 + 64 ≤ vec-len (now cells) ⌝ }
     ensures len { λ _. ⌜ vec-len (now (cells .exit)) ≡ vec-len (now (cells .entry)) ⌝ }
-    ensures places { λ _. ⌜ ((q : ℕ) → getD (vec-items (now (cells .exit))) q 0 ≡ written (vec-items (now (cells .entry))) row (now (path .entry)) q) ⌝ }
+    ensures places { λ _. ⌜ ((q : ℕ) → getD (vec-items (now (cells .exit))) q 0 ≡ written (vec-items (now (cells .entry))) row (now (path .entry)) 64 q) ⌝ }
 {
     for k in 0..64 {
         let network = if k < path.len() { path[k] } else { 0 };
