@@ -1,2 +1,4 @@
-mod Cells
 mod Best
+mod Cells
+mod Chosen
+mod Ranks

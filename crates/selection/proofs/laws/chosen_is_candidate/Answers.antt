@@ -1,0 +1,5 @@
+use Rattle.selection.proofs.Chosen.{usable}
+use Rattle.selection.proofs.laws.chosen_is_candidate.Needs as need
+
+pub returns : need.returns
+returns c = usable
