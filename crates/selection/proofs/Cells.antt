@@ -12,7 +12,7 @@ use Rattle.std.proofs.shelf.Tests.{cases-lt, cases-eq, cond-true, cond-false, e
 use Rattle.std.proofs.shelf.Ways.{tells}
 use Rattle.std.specs.declared.option.Option.{Option}
 use Rattle.std.specs.declared.option.Option.the-variants.{None, Some}
-use Rattle.selection.specs.Rows.{Short, Padded, rows, told, with-row, written}
+use Rattle.selection.specs.Rows.{Short, Padded, rows, said, told, with-row, written}
 
 zero-at : (xs : List ℕ) (k i : ℕ) → xs ≡ replicate k 0 → getD xs i 0 ≡ 0
 zero-at xs k i e = ap (λ l. getD l i 0) e ∙ ⊎-elim (λ h. getD-replicate k i 0 0 h) (λ h. getD-past (replicate k 0) i 0 (simp length-replicate h)) (cases-lt i k)
@@ -79,7 +79,7 @@ module _ (blocks block neighbour : ℕ) (lengths cells new path : List ℕ) (siz
       (λ ne. let w : getD lengths s 0 ≤ k = grind (arith, tells, e) in ap (λ y. getD new y 0) z ∙ outside s k ne u ∙ ap (λ y. getD cells y 0) (sym z) ∙ padded q w)
       (cases-eq s r)
 
-  told-here : told longer new r ≡ cond (eqb (length path) 0) None (Some path)
+  told-here : told longer new r ≡ said path
   told-here =
       let e : getD longer r 0 ≡ length path = getD-set-same lengths r (length path) 0 (omega arith) in
       let p = part-is new path (r * 64) (length path) refl (omega arith) (λ k h. inside k (omega arith)) in
@@ -95,19 +95,19 @@ module _ (blocks block neighbour : ℕ) (lengths cells new path : List ℕ) (siz
       let p = part-is new (take l (drop (s * 64) cells)) (s * 64) l n (omega arith) (λ k w. outside s k ne (omega arith) ∙ sym (getD-take l (drop (s * 64) cells) k 0 w ∙ getD-drop (s * 64) cells k 0)) in
       (λ i. cond (eqb (e i) 0) None (Some (take (e i) (drop (s * 64) new)))) ∙ ap (λ y. cond (eqb l 0) None (Some y)) p
 
-  row-after : (b j : ℕ) → rows blocks longer new b j ≡ with-row (rows blocks lengths cells) block neighbour (cond (eqb (length path) 0) None (Some path)) b j
+  row-after : (b j : ℕ) → rows blocks longer new b j ≡ with-row (rows blocks lengths cells) block neighbour (said path) b j
   row-after b j =
       ⊎-elim
       (λ u. ⊎-elim
-        (λ v. ⊎-elim
-          (λ e. let t = ap (told longer new) e ∙ told-here in grind (arith, tells, t))
-          (λ ne. let t = told-there b j u v ne in grind (arith, tells, t))
-          (cases-eq (b * 64 + j) r))
-        (λ v. grind (arith, tells))
-        (cases-lt j 64))
+      (λ v. ⊎-elim
+      (λ e. let t = ap (told longer new) e ∙ told-here in grind (arith, tells, t))
+      (λ ne. let t = told-there b j u v ne in grind (arith, tells, t))
+      (cases-eq (b * 64 + j) r))
+      (λ v. grind (arith, tells))
+      (cases-lt j 64))
       (λ u. grind (arith, tells))
       (cases-lt b blocks)
 
   -- a table with a row written keeps the promises of its type, and says the same but for that row
-  pub row-hold : Short longer × Padded longer new × ((b j : ℕ) → rows blocks longer new b j ≡ with-row (rows blocks lengths cells) block neighbour (cond (eqb (length path) 0) None (Some path)) b j)
+  pub row-hold : Short longer × Padded longer new × ((b j : ℕ) → rows blocks longer new b j ≡ with-row (rows blocks lengths cells) block neighbour (said path) b j)
   row-hold = (still-short, still-padded, row-after)

@@ -18,19 +18,19 @@ use Rattle.selection.proofs.Best.{held}
 
 pub strict : Strict
 strict rel =
-    record
-      { irreflexive = λ j p. grind (arith, tells)
-      ; transitive = λ i j k o p q a b. grind (arith, tells)
-      ; total = λ j k p q ne. totals (rank (rel j)) (rank (rel k)) (length p) (length q) j k ne
-      }
+    record {
+      irreflexive = λ j p. grind (arith, tells);
+      transitive = λ i j k o p q a b. grind (arith, tells);
+      total = λ j k p q ne. totals (rank (rel j)) (rank (rel k)) (length p) (length q) j k ne;
+    }
   where
     totals : (a b c d j k : ℕ) → (j ≡ k → ⊥) → ((ltb a b || (eqb a b && (ltb c d || (eqb c d && ltb j k)))) ≡ true) ⊎ ((ltb b a || (eqb b a && (ltb d c || (eqb d c && ltb k j)))) ≡ true)
     totals a b c d j k ne =
         ⊎-elim
         (λ e. ⊎-elim
-          (λ f. ⊎-elim (λ l. inl (grind (arith, tells))) (λ l. inr (grind (arith, tells))) (cases-lt j k))
-          (⊎-elim (λ l. inl (grind (arith, tells))) (λ l. inr (grind (arith, tells))))
-          (cases-order c d))
+        (λ f. ⊎-elim (λ l. inl (grind (arith, tells))) (λ l. inr (grind (arith, tells))) (cases-lt j k))
+        (⊎-elim (λ l. inl (grind (arith, tells))) (λ l. inr (grind (arith, tells))))
+        (cases-order c d))
         (⊎-elim (λ l. inl (grind (arith, tells))) (λ l. inr (grind (arith, tells))))
         (cases-order a b)
 
@@ -122,9 +122,9 @@ module _ (first : Order) (s : StrictOrder first) (says : Sayings) where
           ⊎-elim
           (λ u. f ∙ (λ i. via (u i) (same-path (says k) q p (ap says (sym u) ∙ h .1) e i)))
           (λ ne. ⊎-elim
-            (λ t. absurd (both-ways (first j q k p) (none j q (h .0) (h .1)) t))
-            (λ t. absurd (both-ways (first k p j q) (st k p l e) t))
-            (s .total j k q p ne))
+          (λ t. absurd (both-ways (first j q k p) (none j q (h .0) (h .1)) t))
+          (λ t. absurd (both-ways (first k p j q) (st k p l e) t))
+          (s .total j k q p ne))
           (cases-eq j k)
 
 pub none-before : NoneBefore
@@ -142,10 +142,10 @@ none-left within rel up me home says n e =
     (cases-eq me home)
 
 pub own-home : OwnHome
-own-home within rel up me home says n =
-    ( λ e. ⊎-elim (λ h. h) (λ ne. absurd (subst (Empty (candidate rel up me says) n) (sym (elsewhere within rel up me home says n ne) ∙ e) (best-empty (before within rel) (candidate rel up me says) n))) (cases-eq me home)
-    , at-home within rel up me home says n
-    )
+own-home within rel up me home says n = (
+  λ e. ⊎-elim (λ h. h) (λ ne. absurd (subst (Empty (candidate rel up me says) n) (sym (elsewhere within rel up me home says n ne) ∙ e) (best-empty (before within rel) (candidate rel up me says) n))) (cases-eq me home),
+  at-home within rel up me home says n,
+)
 
 pub only : Only
 only rel up me home says n k p ne l e none =

@@ -54,7 +54,7 @@ module _ (within : Order) (rel : ℕ → Relation) (t : ℕ) where
   low-more n (Some p) a b l h =
       ⊎-elim
       (λ s. let m = same-low n (s .0) (s .1) (Some p) l (s .2) in
-        inl (m .0, m .1, m .2, ap (λ x. better first x n (Some p)) (s .3) ∙ m .3, ap (λ x. better first x n (Some p)) (s .4) ∙ m .3))
+      inl (m .0, m .1, m .2, ap (λ x. better first x n (Some p)) (s .3) ∙ m .3, ap (λ x. better first x n (Some p)) (s .4) ∙ m .3))
       (λ s. inl (n, p, l, taken n p a l (s .0), taken n p b l (s .1)))
       h
 
@@ -63,9 +63,9 @@ module _ (within : Order) (rel : ℕ → Relation) (t : ℕ) where
       ⊎-elim
       (λ l. subst (λ x. Agreed t rel (better first a n o) (better first b n x)) (same l) (low-more n o a b l h))
       (λ l. ⊎-elim
-        (λ s. inl (s .0, s .1, s .2, ap (λ x. better first x n o) (s .3) ∙ kept n (s .0) (s .1) o (s .2) l, ap (λ x. better first x n o′) (s .4) ∙ kept n (s .0) (s .1) o′ (s .2) l))
-        (λ s. inr (still-not n o a l (s .0), still-not n o′ b l (s .1)))
-        h)
+      (λ s. inl (s .0, s .1, s .2, ap (λ x. better first x n o) (s .3) ∙ kept n (s .0) (s .1) o (s .2) l, ap (λ x. better first x n o′) (s .4) ∙ kept n (s .0) (s .1) o′ (s .2) l))
+      (λ s. inr (still-not n o a l (s .0), still-not n o′ b l (s .1)))
+      h)
       (cases-lt (rank (rel n)) t)
 
   best-agreed : (says says′ : Sayings) (n : ℕ) → ((j : ℕ) → j < n → rank (rel j) < t → says j ≡ says′ j) → Agreed t rel (best first says n) (best first says′ n)
@@ -100,4 +100,4 @@ customers-decide within r up up′ received received′ me block home paths link
     (λ s. inl (s .0, s .1, only-customers (relation r me (s .0)) (s .2), s .3, s .4))
     (λ s. inr (no-customer (relation r me) _ (s .0), no-customer (relation r me) _ (s .1)))
     (rank-decides within (relation r me) 1 me home (networks r) (λ j. getD up j false) (λ j. getD up′ j false) (λ j. row received block j) (λ j. row received′ block j)
-      (λ j _ l. let e = only-customers (relation r me j) l in λ i. cond (related (relation r me j) && links j e i) (heard me (paths j e i)) None))
+    (λ j _ l. let e = only-customers (relation r me j) l in λ i. cond (related (relation r me j) && links j e i) (heard me (paths j e i)) None))

@@ -4,7 +4,7 @@ use mathlib.Core.Bool.{cond, _&&_}
 use mathlib.Core.List.{List}
 use Prim.Native.Nat.{ℕ, _+_, _-_, _*_, _/_, _%_, _≤_}
 use lib.Dec.{ltb, leb, eqb}
-use lib.ListN.{getD, take, drop}
+use lib.ListN.{getD, length, take, drop}
 use Rattle.std.specs.declared.option.Option.{Option}
 use Rattle.std.specs.declared.option.Option.the-variants.{None, Some}
 
@@ -33,6 +33,10 @@ rows blocks lengths cells block neighbour = cond (ltb block blocks && ltb neighb
 
 abbrev pub none : Rows
 none block neighbour = None
+
+-- what a row says that holds this path: of no network, that nothing was told
+abbrev pub said : List ℕ → Option (List ℕ)
+said path = cond (eqb (length path) 0) None (Some path)
 
 -- as before, but for one row
 abbrev pub with-row : Rows → ℕ → ℕ → Option (List ℕ) → Rows

@@ -1,5 +1,5 @@
 // What a network goes by for a block.
-#[derive(Clone, Copy, Debug, PartialEq, Eq)]
+#[derive(Clone, Copy, Debug)]
 pub enum Route<'a> {
     // Nothing.
     Nothing,

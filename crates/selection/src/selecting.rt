@@ -51,7 +51,14 @@ fn is_up(up: &[bool], neighbour: u8) -> bool
 }
 
 // The path by `neighbour` that `me` may go by, if any.
-fn candidate<'a>(relations: &Relations, up: &[bool], received: &'a PathTable, me: u8, block: u16, neighbour: u8) -> Option<&'a [u8]>
+fn candidate<'a>(
+    relations: &Relations,
+    up: &[bool],
+    received: &'a PathTable,
+    me: u8,
+    block: u16,
+    neighbour: u8,
+) -> Option<&'a [u8]>
     ensures { λ r. ⌜ mapped now r ≡ candidate-of (relation-of (now (relations .entry)) me) (λ j. getD (now (up .entry)) j false) me (λ j. row (now (received .entry)) block j) neighbour ⌝ }
 {
     if !is_related(relations.relation(me, neighbour)) || !is_up(up, neighbour) {
@@ -65,11 +72,22 @@ fn candidate<'a>(relations: &Relations, up: &[bool], received: &'a PathTable, me
 fn keys(relations: &Relations, me: u8, neighbour: u8, path: &[u8]) -> [usize; 3]
     ensures { λ r. ⌜ r ≡ rank-of (relation-of (now (relations .entry)) me neighbour) ∷ length (now (path .entry)) ∷ neighbour ∷ [] ⌝ }
 {
-    [rank(relations.relation(me, neighbour)) as usize, path.len(), neighbour as usize]
+    [
+        rank(relations.relation(me, neighbour)) as usize,
+        path.len(),
+        neighbour as usize,
+    ]
 }
 
 // What `me` goes by for the block of `home`, where `up` says which links are up.
-pub fn select<'a>(relations: &Relations, up: &[bool], received: &'a PathTable, me: u8, block: u16, home: u8) -> Route<'a>
+pub fn select<'a>(
+    relations: &Relations,
+    up: &[bool],
+    received: &'a PathTable,
+    me: u8,
+    block: u16,
+    home: u8,
+) -> Route<'a>
     ensures { λ r. ⌜ meaning r ≡ choose shorter (relation-of (now (relations .entry)) me) (λ j. getD (now (up .entry)) j false) me home (λ j. row (now (received .entry)) block j) (networks-of (now (relations .entry))) ⌝ }
 {
     if me == home {
@@ -80,7 +98,10 @@ pub fn select<'a>(relations: &Relations, up: &[bool], received: &'a PathTable, m
         let Some(path) = candidate(relations, up, received, me, block, j) else {
             continue;
         };
-        if let Route::Via { neighbour, path: chosen } = best {
+        if let Route::Via {
+            neighbour,
+            path: chosen,
+        } = best {
             let new = keys(relations, me, j, path);
             let old = keys(relations, me, neighbour, chosen);
             for k in 0..3 {

@@ -1,7 +1,7 @@
 // Making, reading and writing the table.
 ghost use mathlib.Core.Path.{_≡_};
 ghost use mathlib.Core.Bool.{_&&_};
-ghost use Prim.Native.Nat.{ℕ, _*_, _+_, _≤_, min};
+ghost use Prim.Native.Nat.{ℕ, _*_, _+_, _<_, _≤_, min};
 ghost use lib.Dec.{leb, ltb};
 ghost use lib.ListN.{getD, length};
 ghost use Rattle.std.specs.Options.{mapped};
@@ -10,7 +10,7 @@ ghost use Rattle.std.specs.Orderings.{When};
 ghost use Rattle.std.specs.Vec.{made};
 ghost use Rattle.std.specs.declared.option.Option.the-variants.{None, Some};
 ghost use Rattle.selection.specs.Paths.{count, row};
-ghost use Rattle.selection.specs.Rows.{with-row, written};
+ghost use Rattle.selection.specs.Rows.{said, with-row, written};
 use crate::table::PathTable;
 use relations::MOST;
 use std::alloc::AllocError;
@@ -24,10 +24,20 @@ impl PathTable {
     pub fn new(heap: Global, blocks: u16) -> Result<PathTable, AllocError>
         ensures { λ r. ⌜ made r (λ t. (count t ≡ min blocks 256) × ((b j : ℕ) → row t b j ≡ None)) ⌝ }
     {
-        let blocks = blocks.min(MOST_BLOCKS);
+        PathTable::empty(heap, blocks.min(MOST_BLOCKS))
+    }
+
+    fn empty(heap: Global, blocks: u16) -> Result<PathTable, AllocError>
+        requires { ⌜ blocks ≤ 256 ⌝ }
+        ensures { λ r. ⌜ made r (λ t. (count t ≡ blocks) × ((b j : ℕ) → row t b j ≡ None)) ⌝ }
+    {
         let lengths = vec![in heap; 0; blocks as usize * 64]?;
         let cells = vec![in heap; 0; blocks as usize * 4096]?;
-        Ok(PathTable { blocks, lengths, cells })
+        Ok(PathTable {
+            blocks,
+            lengths,
+            cells,
+        })
     }
 
     // How many blocks there are.
@@ -63,9 +73,7 @@ impl PathTable {
         if block >= self.blocks || neighbour >= MOST || path.len() == 0 || path.len() > 64 {
             return false;
         }
-        let row = block as usize * 64 + neighbour as usize;
-        self.lengths[row] = path.len() as u8;
-        write_row(&mut self.cells, row, path);
+        self.write(block, neighbour, path);
         true
     }
 
@@ -77,9 +85,19 @@ impl PathTable {
         if block >= self.blocks || neighbour >= MOST {
             return;
         }
+        self.write(block, neighbour, &[]);
+    }
+
+    // Writes the path into the row of `block` and `neighbour`; one of no network says that nothing was told.
+    fn write(&mut self, block: u16, neighbour: u8, path: &[u8])
+        requires there { ⌜ block < count (now self) ⌝ ∗ ⌜ neighbour < 64 ⌝ }
+        requires fits { ⌜ length (now path) ≤ 64 ⌝ }
+        ensures same { λ _. ⌜ count (now (self .exit)) ≡ count (now (self .entry)) ⌝ }
+        ensures after { λ _. ⌜ ((b j : ℕ) → row (now (self .exit)) b j ≡ with-row (row (now (self .entry))) block neighbour (said (now (path .entry))) b j) ⌝ }
+    {
         let row = block as usize * 64 + neighbour as usize;
-        self.lengths[row] = 0;
-        write_row(&mut self.cells, row, &[]);
+        self.lengths[row] = path.len() as u8;
+        write_row(&mut self.cells, row, path);
     }
 }
 

@@ -20,12 +20,12 @@ candidates-again-then-new-k c =
 
 pub candidates-again : need.candidates-again
 candidates-again c =
-    elim (c .match-best .came)
-    [ in-Via·else-loop-k-test w ↦
-        absurd (other _ _ (c .candidates .best) (c .candidates .j) (c .candidates .inv) (c .in-Some .path .now) (c .in-Some .ensures tt) (w .in-Via .neighbour) (w .in-Via .chosen) (w .in-Via .is)
-        (same-number _ _ _ _ _ _ (w .keys-new .result) (w .keys-old .result) (w .keys-new .ensures) (w .keys-old .ensures) (w .loop-k .k) (w .loop-k-test .left) (w .loop-k .inv)))
-    | in-Via·then-loop-k-test·else-new-k·then-new-k-2 w ↦
-        better-one _ _ (c .candidates .best) (c .candidates .j) (c .candidates .inv) (c .in-Some .path .now) (c .in-Some .ensures tt) (w .in-Via .neighbour) (w .in-Via .chosen) (w .in-Via .is)
-        (better-at _ _ _ _ _ _ (w .keys-new .result) (w .keys-old .result) (w .keys-new .ensures) (w .keys-old .ensures) (w .loop-k .k) (omega arith) (w .loop-k .inv) (w .if-new-k-2 .taken))
-    | in-rest-best w ↦ first-one _ _ (c .candidates .best) (c .candidates .j) (c .candidates .inv) (c .in-Some .path .now) (c .in-Some .ensures tt) (w .in-rest-best .not-Via)
+    elim (c .match-best .came) [
+      | in-Via·else-loop-k-test w ↦
+          absurd (other _ _ (c .candidates .best) (c .candidates .j) (c .candidates .inv) (c .in-Some .path .now) (c .in-Some .ensures tt) (w .in-Via .neighbour) (w .in-Via .chosen) (w .in-Via .is)
+          (same-number _ _ _ _ _ _ (w .keys-new .result) (w .keys-old .result) (w .keys-new .ensures) (w .keys-old .ensures) (w .loop-k .k) (w .loop-k-test .left) (w .loop-k .inv)))
+      | in-Via·then-loop-k-test·else-new-k·then-new-k-2 w ↦
+          better-one _ _ (c .candidates .best) (c .candidates .j) (c .candidates .inv) (c .in-Some .path .now) (c .in-Some .ensures tt) (w .in-Via .neighbour) (w .in-Via .chosen) (w .in-Via .is)
+          (better-at _ _ _ _ _ _ (w .keys-new .result) (w .keys-old .result) (w .keys-new .ensures) (w .keys-old .ensures) (w .loop-k .k) (omega arith) (w .loop-k .inv) (w .if-new-k-2 .taken))
+      | in-rest-best w ↦ first-one _ _ (c .candidates .best) (c .candidates .j) (c .candidates .inv) (c .in-Some .path .now) (c .in-Some .ensures tt) (w .in-rest-best .not-Via)
     ]
