@@ -72,11 +72,8 @@ fn candidate<'a>(
 fn keys(relations: &Relations, me: u8, neighbour: u8, path: &[u8]) -> [usize; 3]
     ensures { λ r. ⌜ r ≡ rank-of (relation-of (now (relations .entry)) me neighbour) ∷ length (now (path .entry)) ∷ neighbour ∷ [] ⌝ }
 {
-    [
-        rank(relations.relation(me, neighbour)) as usize,
-        path.len(),
-        neighbour as usize,
-    ]
+    let rank = rank(relations.relation(me, neighbour));
+    [rank as usize, path.len(), neighbour as usize]
 }
 
 // What `me` goes by for the block of `home`, where `up` says which links are up.
@@ -98,12 +95,9 @@ pub fn select<'a>(
         let Some(path) = candidate(relations, up, received, me, block, j) else {
             continue;
         };
-        if let Route::Via {
-            neighbour,
-            path: chosen,
-        } = best {
-            let new = keys(relations, me, j, path);
-            let old = keys(relations, me, neighbour, chosen);
+        let new = keys(relations, me, j, path);
+        if let Route::Via { neighbour, path } = best {
+            let old = keys(relations, me, neighbour, path);
             for k in 0..3 {
                 if new[k] > old[k] {
                     continue 'candidates;

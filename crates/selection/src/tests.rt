@@ -1,4 +1,4 @@
-// Paths told, told anew and taken back.
+// Paths told and taken back.
 use crate::table::PathTable;
 use std::test::*;
 
@@ -6,17 +6,8 @@ use std::test::*;
 fn a_path_is_told(rt: LibcRuntime) -> Result<(), Fail> {
     let mut table = PathTable::new(rt.alloc(), 2)?;
     check(table.set(1, 5, &[5, 9]))?;
+    check(!table.set(2, 5, &[5, 9]))?;
     check(table.path(1, 5).ok_or("no path")? == [5, 9].as_slice())?;
-    check(table.path(1, 4).is_none())?;
     table.clear(1, 5);
     check(table.path(1, 5).is_none())
-}
-
-#[test]
-fn what_is_refused(rt: LibcRuntime) -> Result<(), Fail> {
-    let mut table = PathTable::new(rt.alloc(), 2)?;
-    check(!table.set(2, 5, &[5, 9]))?;
-    check(!table.set(1, 64, &[5, 9]))?;
-    check(!table.set(1, 5, &[]))?;
-    check(!table.set(1, 5, &[0; 65]))
 }
