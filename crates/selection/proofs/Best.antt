@@ -1,20 +1,18 @@
 -- The best of the candidates, network by network. Assumes nothing.
 use mathlib.Core.Path.{_≡_, refl, sym, ap, _∙_, subst}
-use mathlib.Core.Bool.{Bool, true, false, cond, _&&_, _||_}
+use mathlib.Core.Bool.{true, false, cond, _&&_, _||_}
 use mathlib.Core.List.{List, [], _∷_}
-use mathlib.Core.Logic.{_⊎_, ⊎-elim}
 use Prim.Native.Nat.{ℕ, zero, suc, _+_, _<_, _≤_}
 use native.Mathlib.Omega.{arith}
 use native.Mathlib.Numerals.{add-one}
 use lib.Dec.{ltb, eqb}
-use lib.ListN.{getD, length}
+use lib.ListN.{getD}
 use denote.Ref.{RefT}
 use Rattle.std.proofs.shelf.Tests.{cond-both, cond-true, cond-false}
 use Rattle.std.proofs.shelf.Ways.{tells}
 use Rattle.std.specs.declared.option.Option.{Option}
 use Rattle.std.specs.declared.option.Option.the-variants.{None, Some}
-use Rattle.relations.specs.declared.relation.Relation.{Relation}
-use Rattle.selection.specs.Choosing.{Choice, nothing, local, via, Order, shorter, before, rank, better, best, meaning}
+use Rattle.selection.specs.Choosing.{Choice, nothing, local, via, Order, better, best, meaning}
 use Rattle.selection.specs.declared.route.Route.{Route}
 use Rattle.selection.specs.declared.route.Route.the-variants.{Nothing, Local, Via}
 

@@ -1,4 +1,5 @@
-mod Best
+pub mod Best
+mod Bytes
 mod Cells
-mod Chosen
-mod Ranks
+pub mod Chosen
+pub mod Ranks

@@ -1,11 +1,10 @@
 -- What the neighbours of the ranks below one offer decides whether one of them is chosen, and which. Assumes nothing.
 use mathlib.Core.Path.{_≡_, refl, sym, ap, _∙_, subst}
-use mathlib.Core.Bool.{Bool, true, false, cond, _&&_, _||_}
+use mathlib.Core.Bool.{false, cond, _&&_}
 use mathlib.Core.List.{List}
-use mathlib.Core.Logic.{_⊎_, inl, inr, ⊎-elim}
+use mathlib.Core.Logic.{inl, inr, ⊎-elim}
 use Prim.Native.Nat.{ℕ, zero, suc, _<_, _≤_}
 use native.Mathlib.Omega.{arith}
-use lib.Dec.{ltb, eqb}
 use lib.ListN.{getD}
 use Rattle.std.proofs.shelf.Tests.{cases-eq, cases-lt, cond-both, cond-true, cond-false, cases-bool}
 use Rattle.std.proofs.shelf.Ways.{tells}
@@ -14,7 +13,7 @@ use Rattle.std.specs.declared.option.Option.the-variants.{None, Some}
 use Rattle.relations.specs.Sound.{networks, relation}
 use Rattle.relations.specs.declared.relation.Relation.{Relation}
 use Rattle.relations.specs.declared.relation.Relation.the-variants.{Unrelated, Customer, Peer, Provider}
-use Rattle.selection.specs.Choosing.{Choice, nothing, local, via, Order, before, rank, related, better, best, heard, candidate, choose}
+use Rattle.selection.specs.Choosing.{Choice, nothing, local, via, Order, before, rank, related, better, best, heard, candidate}
 use Rattle.selection.specs.Laws.{Agreed, CustomersDecide, NoCustomer, NotBelow, RankDecides, Sayings}
 use Rattle.selection.specs.Paths.{row}
 use Rattle.selection.proofs.Chosen.{at-home, elsewhere}

@@ -5,6 +5,7 @@ use mathlib.Core.List.{List}
 use mathlib.Core.Logic.{_⊎_}
 use Prim.Native.Nat.{ℕ, _<_, _≤_}
 use lib.ListN.{getD}
+use Rattle.std.specs.Of.Vec.{vec-items}
 use Rattle.std.specs.declared.option.Option.{Option}
 use Rattle.std.specs.declared.option.Option.the-variants.{None, Some}
 use Rattle.relations.specs.Sound.{networks, relation}
@@ -12,7 +13,7 @@ use Rattle.relations.specs.declared.relation.Relation.{Relation}
 use Rattle.relations.specs.declared.relation.Relation.the-variants.{Customer}
 use Rattle.relations.specs.declared.sound.Relations.{Relations}
 use Rattle.selection.specs.Choosing.{Choice, nothing, local, via, Order, shorter, before, rank, candidate, choose}
-use Rattle.selection.specs.Paths.{row}
+use Rattle.selection.specs.Paths.{count, row}
 use Rattle.selection.specs.declared.table.PathTable.{PathTable}
 
 -- what each neighbour says
@@ -76,3 +77,7 @@ selected within r up received me block home = choose within (relation r me) (λ 
 -- selects a customer's path from both, and the same, or from neither
 abbrev pub CustomersDecide : Type 0
 CustomersDecide = (within : Order) (r : Relations) (up up′ : List Bool) (received received′ : PathTable) (me block home : ℕ) → ((j : ℕ) → relation r me j ≡ Customer → row received block j ≡ row received′ block j) → ((j : ℕ) → relation r me j ≡ Customer → getD up j false ≡ getD up′ j false) → ((j : ℕ) × (p : List ℕ) × (relation r me j ≡ Customer) × (selected within r up received me block home ≡ via j p) × (selected within r up′ received′ me block home ≡ via j p)) ⊎ (NoCustomer (relation r me) (selected within r up received me block home) × NoCustomer (relation r me) (selected within r up′ received′ me block home))
+
+-- tables whose rows say the same hold the same bytes
+abbrev pub SameBytes : Type 0
+SameBytes = (t u : PathTable) → count t ≡ count u → ((b j : ℕ) → row t b j ≡ row u b j) → (vec-items (t .lengths) ≡ vec-items (u .lengths)) × (vec-items (t .cells) ≡ vec-items (u .cells))

@@ -1,5 +1,5 @@
 // What holds of every selection: each function's contract is a theorem, and its result says nothing.
-ghost use Rattle.selection.specs.Laws.{CustomersDecide, NoneBefore, NoneLeft, Only, OwnHome, RankDecides, Strict, Usable};
+ghost use Rattle.selection.specs.Laws.{CustomersDecide, NoneBefore, NoneLeft, Only, OwnHome, RankDecides, SameBytes, Strict, Usable};
 
 // A path that is chosen is the candidate of a neighbour that there is.
 pub fn chosen_is_candidate() -> u8
@@ -54,6 +54,13 @@ pub fn rank_decides() -> u8
 // selects a customer's path from both, and the same, or from neither.
 pub fn customers_decide() -> u8
     ensures { λ _. ⌜ CustomersDecide ⌝ }
+{
+    0
+}
+
+// Tables whose rows say the same hold the same bytes.
+pub fn same_rows_same_bytes() -> u8
+    ensures { λ _. ⌜ SameBytes ⌝ }
 {
     0
 }

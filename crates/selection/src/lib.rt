@@ -13,6 +13,7 @@ pub use laws::none_before_chosen;
 pub use laws::nothing_without_candidate;
 pub use laws::only_choice;
 pub use laws::rank_decides;
+pub use laws::same_rows_same_bytes;
 pub use laws::strict_order;
 pub use route::Route;
 pub use selecting::select;

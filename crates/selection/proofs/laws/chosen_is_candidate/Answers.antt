@@ -1,3 +1,4 @@
+-- A path that is chosen is a candidate.
 use Rattle.selection.proofs.Chosen.{usable}
 use Rattle.selection.proofs.laws.chosen_is_candidate.Needs as need
 

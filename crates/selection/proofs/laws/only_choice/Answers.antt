@@ -1,3 +1,4 @@
+-- A candidate that none is before is what is chosen.
 use Rattle.selection.proofs.Chosen.{only}
 use Rattle.selection.proofs.laws.only_choice.Needs as need
 

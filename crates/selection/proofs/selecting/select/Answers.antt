@@ -1,11 +1,5 @@
 -- One more network: it has no candidate, or its candidate is worse or better than the best so far.
-use mathlib.Core.Bool.{false}
-use mathlib.Core.Path.{sym}
 use native.Mathlib.Omega.{arith}
-use lib.ListN.{getD, length}
-use Rattle.relations.specs.Sound.{relation as relation-of}
-use Rattle.selection.specs.Choosing.{before, candidate, rank, shorter}
-use Rattle.selection.specs.Paths.{row}
 use Rattle.selection.proofs.Best.{stays-none, first-one, better-one, worse-one, other, worse-at, better-at, same-number}
 use Rattle.selection.proofs.selecting.select.Needs as need
 use Rattle.selection.proofs.selecting.select.Needs.{in-Via·else-loop-k-test, in-Via·then-loop-k-test·else-new-k·then-new-k-2, in-rest-best}
