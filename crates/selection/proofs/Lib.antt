@@ -1,0 +1,5 @@
+pub mod Best
+mod Bytes
+mod Cells
+pub mod Chosen
+pub mod Ranks

@@ -1,0 +1,4 @@
+pub mod Rows
+pub mod Paths
+pub mod Choosing
+pub mod Laws
