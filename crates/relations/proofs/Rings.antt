@@ -1,18 +1,18 @@
 -- From walks to the ring that is told. Assumes nothing.
-use mathlib.Core.Path.{_≡_, refl, sym, ap, _∙_, subst}
+use mathlib.Core.Path.{_≡_, refl, ap, _∙_, subst}
 use mathlib.Core.List.{List, [], _∷_, _++_, append-assoc}
 use mathlib.Core.Logic.{_⊎_, inl, inr, ⊎-elim}
-use Prim.Native.Nat.{ℕ, zero, suc, _+_, _<_, _≤_}
+use Prim.Native.Nat.{ℕ, _+_, _<_, _≤_}
 use native.Mathlib.Omega.{arith}
 use lib.ListN.{length, getD}
 use Rattle.std.specs.shelf.Lists.{All}
 use Rattle.std.proofs.shelf.Elements.{all-append}
 use Rattle.std.proofs.shelf.Tests.{cases-lt}
-use Rattle.relations.specs.Between.{Between, Mutual, Within, opposite}
+use Rattle.relations.specs.Between.{Between, Within}
 use Rattle.relations.specs.Cycle.{Chain, Cycle, NoCycle, FromLowest, Smaller, Earlier, First}
 use Rattle.relations.specs.Walk.{Climb, Shortest, Walked}
 use Rattle.relations.specs.Trace.{Least, Next}
-use Rattle.relations.specs.declared.relation.Relation.the-variants.{Unrelated, Provider}
+use Rattle.relations.specs.declared.relation.Relation.the-variants.{Provider}
 
 -- a list to which x was added, and then more
 pub added-way : (old mid new way : List ℕ) (x : ℕ) → mid ≡ old ++ x ∷ [] → new ≡ mid ++ way → new ≡ old ++ x ∷ way

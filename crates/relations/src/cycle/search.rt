@@ -1,7 +1,7 @@
 // The search for the first cycle of customers.
 ghost use mathlib.Core.Path.{_≡_};
 ghost use mathlib.Core.List.{List, _++_};
-ghost use Prim.Native.Nat.{ℕ, _+_, _-_, _<_, _≤_};
+ghost use Prim.Native.Nat.{ℕ, _+_, _<_};
 ghost use lib.ListN.{length};
 ghost use Rattle.std.specs.Of.Vec.{vec-items};
 ghost use Rattle.std.specs.Options.{Cases as BySome};
@@ -17,7 +17,7 @@ use crate::relation::MOST;
 use std::alloc::AllocError;
 use std::alloc::Global;
 
-// The lowest provider of `at`, from `low` on, from which `left` steps lead up to `low`.
+// The lowest provider of `at`, from `low` on, from which `left` steps lead up to `low` and no fewer.
 fn next_up(matrix: &Matrix, low: u8, at: u8, left: u8, steps: &mut [u8]) -> u8
     requires long { ⌜ length (now steps) ≡ 64 ⌝ }
     requires some { ⌜ (low < 64) × (0 < left) × (left < 255) ⌝ }

@@ -1,5 +1,4 @@
 -- The walk from each provider tells whether it goes on there, and it does from one of them.
-use Prim.Native.Nat.{_+_, _<_}
 use mathlib.Core.Path.{_≡_, sym, subst}
 use mathlib.Core.Logic.{⊎-elim}
 use native.Mathlib.Omega.{arith}
