@@ -1,12 +1,12 @@
 -- Of two rings one comes first, or they are the same. Assumes nothing.
-use mathlib.Core.Path.{_≡_, refl, sym, ap, _∙_}
+use mathlib.Core.Path.{_≡_, refl, sym}
 use mathlib.Core.List.{List, [], _∷_}
 use mathlib.Core.Logic.{_⊎_, inl, inr, ⊎-elim}
-use Prim.Native.Nat.{ℕ, _<_}
+use Prim.Native.Nat.{ℕ}
 use native.Mathlib.Omega.{arith}
 use lib.ListN.{length}
 use Rattle.std.proofs.shelf.Tests.{cases-order}
-use Rattle.relations.specs.Cycle.{Smaller, Earlier, First}
+use Rattle.relations.specs.Cycle.{Smaller, Earlier}
 use Rattle.relations.specs.Unique.{OneFirst}
 
 smaller-cases : (xs ys : List ℕ) → length xs ≡ length ys → (xs ≡ ys) ⊎ (Smaller xs ys ⊎ Smaller ys xs)

@@ -5,12 +5,12 @@ use mathlib.Core.List.{List, [], _∷_, _++_}
 use mathlib.Core.Logic.{_⊎_, inl, inr, ⊎-elim}
 use Prim.Native.Nat.{ℕ, zero, suc, _+_, _<_, _≤_}
 use native.Mathlib.Omega.{arith}
-use Rattle.std.proofs.shelf.Tests.{cases-bool, cases-eq, cases-lt, or-cases, or-left, or-right, and-parts, and-from}
-use Rattle.relations.specs.Between.{Between, Mutual, Apart, Within, opposite}
+use Rattle.std.proofs.shelf.Tests.{cases-bool, cases-eq, or-cases, or-left, or-right, and-parts, and-from}
+use Rattle.relations.specs.Between.{Between, opposite}
 use Rattle.relations.specs.Cycle.{Chain, NoCycle}
-use Rattle.relations.specs.Heights.{Height, Heights}
+use Rattle.relations.specs.Heights.{Heights}
 use Rattle.relations.specs.Walk.{provider}
-use Rattle.relations.specs.declared.relation.Relation.the-variants.{Unrelated, Customer, Peer, Provider}
+use Rattle.relations.specs.declared.relation.Relation.the-variants.{Provider}
 use Rattle.relations.proofs.Rings.{chain-join, among}
 use Rattle.relations.proofs.Walks.{is-provider}
 

@@ -2,17 +2,18 @@
 use mathlib.Core.Path.{_≡_, refl, sym, ap, _∙_, subst}
 use mathlib.Core.List.{List, [], _∷_, _++_, append-assoc}
 use mathlib.Core.Logic.{_⊎_, inl, inr, ⊎-elim}
-use Prim.Native.Nat.{ℕ, zero, suc, _+_, _<_, _≤_}
+use Prim.Native.Nat.{ℕ, _+_, _<_, _≤_}
 use native.Mathlib.Omega.{arith}
 use lib.ListN.{length, getD}
 use Rattle.std.specs.shelf.Lists.{All}
+use Rattle.std.proofs.shelf.Lists.{append-nil}
 use Rattle.std.proofs.shelf.Elements.{all-append}
 use Rattle.std.proofs.shelf.Tests.{cases-lt}
-use Rattle.relations.specs.Between.{Between, Mutual, Within, opposite}
+use Rattle.relations.specs.Between.{Between, Within}
 use Rattle.relations.specs.Cycle.{Chain, Cycle, NoCycle, FromLowest, Smaller, Earlier, First}
 use Rattle.relations.specs.Walk.{Climb, Shortest, Walked}
-use Rattle.relations.specs.Trace.{Least, Next}
-use Rattle.relations.specs.declared.relation.Relation.the-variants.{Unrelated, Provider}
+use Rattle.relations.specs.Trace.{Least, Next, Traced}
+use Rattle.relations.specs.declared.relation.Relation.the-variants.{Provider}
 
 -- a list to which x was added, and then more
 pub added-way : (old mid new way : List ℕ) (x : ℕ) → mid ≡ old ++ x ∷ [] → new ≡ mid ++ way → new ≡ old ++ x ∷ way
@@ -49,7 +50,7 @@ module _ (rel : Between) (low : ℕ) where
   pub walked-shortest : (v w : ℕ) (steps : List ℕ) → Walked rel low v steps → 0 < getD steps w 0 → Shortest rel low (getD steps w 0) v w
   walked-shortest v w steps walked h = record { walk = walked .real w h; least = λ m c. walked .least m w c .1 }
 
-  pub least-one : (at left : ℕ) → Shortest rel low left at low → left ≤ 1 → Least rel low at left []
+  least-one : (at left : ℕ) → Shortest rel low left at low → left ≤ 1 → Least rel low at left []
   least-one at left short h =
       let c = short .walk in
       record {
@@ -67,7 +68,7 @@ module _ (rel : Between) (low : ℕ) where
       not-smaller [] d a e s = s
       not-smaller (x ∷ xs) d a e s = s
 
-  pub least-more : (at left next all : ℕ) (way : List ℕ) → all ≡ left + 1 → Next rel low at left next → Least rel low next left way → Least rel low at all (next ∷ way)
+  least-more : (at left next all : ℕ) (way : List ℕ) → all ≡ left + 1 → Next rel low at left next → Least rel low next left way → Least rel low at all (next ∷ way)
   least-more at left next all way is n l =
       record { chain = (n .up, l .chain); above = (n .high, l .above); long = omega (arith, l .long); least = not-smaller }
     where
@@ -79,6 +80,13 @@ module _ (rel : Between) (low : ℕ) where
           (λ lt. n .lowest x lt (a .0) (d .0) (record { over = xs; chain = d .1; above = a .1; ends = omega arith; long = omega (arith, l .long) }))
           (λ p. l .least xs (subst (λ k. Chain rel k xs low) (p .0) (d .1)) (a .1) rest (p .1))
           s
+
+  pub traced-none : (at left : ℕ) (ring : List ℕ) → Shortest rel low left at low → left ≤ 1 → Traced rel low at left ring ring
+  traced-none at left ring short h = record { way = []; added = sym (append-nil ring); least = least-one at left short h }
+
+  pub traced-more : (at left next all : ℕ) (old mid new : List ℕ) → all ≡ left + 1 → Next rel low at left next → mid ≡ old ++ next ∷ [] → Traced rel low next left mid new → Traced rel low at all old new
+  traced-more at left next all old mid new is n e t =
+      record { way = next ∷ t .way; added = added-way old mid new (t .way) next e (t .added); least = least-more at left next all (t .way) is n (t .least) }
 
 module _ (rel : Between) where
   pub chain-join : (xs ys : List ℕ) (i m j : ℕ) → Chain rel i xs m → Chain rel m ys j → Chain rel i (xs ++ m ∷ ys) j

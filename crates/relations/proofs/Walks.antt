@@ -15,7 +15,7 @@ use Rattle.std.proofs.shelf.Tests.{cases-eq, cases-lt, cond-false, le-ltb}
 use Rattle.std.proofs.shelf.Ways.{tells}
 use Rattle.relations.specs.Between.{Between, between}
 use Rattle.relations.specs.Cycle.{Chain}
-use Rattle.relations.specs.Walk.{Climb, Known, Spread, Walked, provider, unseen}
+use Rattle.relations.specs.Walk.{Climb, Known, Spread, Walked, provider}
 use Rattle.relations.specs.declared.relation.Relation.{Relation}
 use Rattle.relations.specs.declared.relation.Relation.the-variants.{Unrelated, Customer, Peer, Provider}
 

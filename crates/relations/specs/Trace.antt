@@ -1,6 +1,6 @@
 -- The way that a cycle is told by. Assumes nothing.
 use mathlib.Core.Path.{_≡_}
-use mathlib.Core.List.{List}
+use mathlib.Core.List.{List, _++_}
 use Prim.Native.Nat.{ℕ, _+_, _<_, _≤_}
 use lib.ListN.{length}
 use Rattle.std.specs.shelf.Lists.{All}
@@ -22,3 +22,9 @@ pub record Least (rel : Between) (low at left : ℕ) (way : List ℕ) : Type 0 w
   pub above : All (λ y. low ≤ y) way
   pub long : length way + 1 ≡ left
   pub least : (other : List ℕ) → Chain rel at other low → All (λ y. low ≤ y) other → length other ≡ length way → Smaller other way → ⊥
+
+-- the ring has such a way more at its end
+pub record Traced (rel : Between) (low at left : ℕ) (before after : List ℕ) : Type 0 where
+  pub way : List ℕ
+  pub added : after ≡ before ++ way
+  pub least : Least rel low at left way

@@ -1,14 +1,13 @@
 // The search for the first cycle of customers.
 ghost use mathlib.Core.Path.{_≡_};
-ghost use mathlib.Core.List.{List, _++_};
-ghost use Prim.Native.Nat.{ℕ, _+_, _-_, _<_, _≤_};
+ghost use Prim.Native.Nat.{_+_, _<_};
 ghost use lib.ListN.{length};
 ghost use Rattle.std.specs.Of.Vec.{vec-items};
 ghost use Rattle.std.specs.Options.{Cases as BySome};
 ghost use Rattle.std.specs.Vec.{made};
 ghost use Rattle.relations.specs.Cycle.{First, NoCycle};
 ghost use Rattle.relations.specs.Table.{rel};
-ghost use Rattle.relations.specs.Trace.{Least, Next};
+ghost use Rattle.relations.specs.Trace.{Next, Traced};
 ghost use Rattle.relations.specs.Walk.{Shortest};
 use crate::cycle::walk::provides;
 use crate::cycle::walk::walk_up;
@@ -17,7 +16,7 @@ use crate::relation::MOST;
 use std::alloc::AllocError;
 use std::alloc::Global;
 
-// The lowest provider of `at`, from `low` on, from which `left` steps lead up to `low`.
+// The lowest provider of `at`, from `low` on, from which `left` steps lead up to `low` and no fewer.
 fn next_up(matrix: &Matrix, low: u8, at: u8, left: u8, steps: &mut [u8]) -> u8
     requires long { ⌜ length (now steps) ≡ 64 ⌝ }
     requires some { ⌜ (low < 64) × (0 < left) × (left < 255) ⌝ }
@@ -47,7 +46,7 @@ fn trace(
     requires long { ⌜ length (now steps) ≡ 64 ⌝ }
     requires some { ⌜ low < 64 ⌝ }
     requires short { ⌜ Shortest (rel (now matrix)) low left at low ⌝ }
-    ensures { λ r. ⌜ made r (λ _. (way : List ℕ) × (vec-items (now (ring .exit)) ≡ vec-items (now (ring .entry)) ++ way) × Least (rel (now (matrix .entry))) low at left way) ⌝ }
+    ensures { λ r. ⌜ made r (λ _. Traced (rel (now (matrix .entry))) low at left (vec-items (now (ring .entry))) (vec-items (now (ring .exit)))) ⌝ }
 {
     if left <= 1 {
         return Ok(());

@@ -8,6 +8,7 @@ use crate::matrix::Matrix;
 use crate::relation::MOST;
 use crate::relation::Relation;
 
+// Is network `to` a provider of network `from`?
 pub(crate) fn provides(matrix: &Matrix, from: u8, to: u8) -> bool
     ensures { λ r. ⌜ r ≡ provider (rel (now (matrix .entry)) from to) ⌝ }
 {
@@ -17,7 +18,7 @@ pub(crate) fn provides(matrix: &Matrix, from: u8, to: u8) -> bool
     }
 }
 
-// Writes `step` for each provider of `from` that is not yet seen. Was there any?
+// Writes `step` for each provider of `from`, from `low` on, that is not yet seen. Was there any?
 fn meet(matrix: &Matrix, low: u8, from: u8, step: u8, steps: &mut [u8]) -> bool
     requires long { ⌜ length (now steps) ≡ 64 ⌝ }
     requires some { ⌜ 0 < step ⌝ }

@@ -1,5 +1,4 @@
 -- The walk from each provider tells whether it goes on there, and it does from one of them.
-use Prim.Native.Nat.{_+_, _<_}
 use mathlib.Core.Path.{_≡_, sym, subst}
 use mathlib.Core.Logic.{⊎-elim}
 use native.Mathlib.Omega.{arith}
@@ -16,7 +15,7 @@ use Rattle.relations.proofs.cycle.search.next_up.Needs.{then-provides·else-st
 pub returns-then-steps-low : need.returns-then-steps-low
 returns-then-steps-low c =
     let up = is-provider (rel (c .args .matrix .now) (c .args .at) (c .loop-v .v)) (sym (c .if-provides .ensures tt)) in
-    record { up = up; high = c .loop-v .kept .v; on = goes-on _ _ _ _ _ _ (c .pre .some .1) (c .pre .short) up (c .loop-v .kept .v) (c .walk-up .ensures) (c .if-steps-low .taken); lowest = c .loop-v .inv }
+    record { up = up; high = c .loop-v .kept .v; on = goes-on _ _ _ _ _ _ (c .pre .some .1) (c .pre .short) up (c .loop-v .kept .v) (c .walk-up .ensures) (omega arith); lowest = c .loop-v .inv }
 
 -- the network that the loop is at
 here : (c : need.Joined-provides) → rel (c .args .matrix .now) (c .args .at) (c .loop-v .v) ≡ Provider → Climb (rel (c .args .matrix .now)) (c .args .low) (c .args .left) (c .loop-v .v) (c .args .low) → ⊥

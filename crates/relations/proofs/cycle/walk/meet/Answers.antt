@@ -1,5 +1,5 @@
 -- At each network: it is marked, or it is seen already or no provider.
-use mathlib.Core.Path.{_≡_, sym, _∙_}
+use mathlib.Core.Path.{sym}
 use mathlib.Core.Logic.{inl, inr}
 use native.Mathlib.Omega.{arith}
 use Rattle.relations.proofs.Walks.{spread-none, spread-skip, meet-yes, meet-no, is-provider, not-provider, in-table}

@@ -1,7 +1,7 @@
 -- At each network: it is one of the level, and its providers are met, or it is not.
-use mathlib.Core.Path.{_≡_, sym, ap, _∙_}
+use mathlib.Core.Path.{sym, ap, _∙_}
 use mathlib.Core.Bool.{true, cond}
-use mathlib.Core.Logic.{inl, inr}
+use mathlib.Core.Logic.{inl}
 use native.Mathlib.Omega.{arith}
 use Rattle.relations.proofs.Walks.{spread-none, spread-skip, rise-yes, rise-no, seen-within}
 use Rattle.relations.proofs.cycle.walk.rise.Needs as need

@@ -14,10 +14,11 @@ trace-requires c κs =
 
 pub returns-then-left-gt0 : need.returns-then-left-gt0
 returns-then-left-gt0 c =
-    let way = c .in-Continue-trace .ensures tt .0 in
-    let is : vec-items (c .trace .last .ring) ≡ c .loop-low .low ∷ way = added-way (vec-items (c .new-ring .result)) (vec-items (c .push .last .self)) (vec-items (c .trace .last .ring)) way (c .loop-low .low) (c .in-Continue-push .ensures tt .items) (c .in-Continue-trace .ensures tt .1) ∙ ap (λ l. l ++ c .loop-low .low ∷ way) (c .new-ring .ensures .items) in
+    let traced = c .in-Continue-trace .ensures tt in
+    let way = traced .way in
+    let is : vec-items (c .trace .last .ring) ≡ c .loop-low .low ∷ way = added-way (vec-items (c .new-ring .result)) (vec-items (c .push .last .self)) (vec-items (c .trace .last .ring)) way (c .loop-low .low) (c .in-Continue-push .ensures tt .items) (traced .added) ∙ ap (λ l. l ++ c .loop-low .low ∷ way) (c .new-ring .ensures .items) in
     subst (λ l. First (rel (c .args .self .now)) l) (sym is)
-    (is-first _ _ _ way (c .loop-low .inv .1) (walked-shortest _ _ _ _ _ (c .walk-up .ensures) (c .if-left-gt0 .taken)) (c .in-Continue-trace .ensures tt .2))
+    (is-first _ _ _ way (c .loop-low .inv .1) (walked-shortest _ _ _ _ _ (c .walk-up .ensures) (c .if-left-gt0 .taken)) (traced .least))
 
 pub loop-low-again : need.loop-low-again
 loop-low-again c = (omega arith, none-more _ _ _ (c .walk-up .ensures) (c .if-left-gt0 .left) (c .loop-low .inv .1))
