@@ -14,3 +14,4 @@ pub use relation::RelationPartialEq;
 pub use relation::most_networks;
 pub use sound::Relations;
 pub use sound::Unsound;
+pub use sound::UnsoundDebug;

@@ -3,8 +3,6 @@ mod laws;
 mod route;
 mod selecting;
 mod table;
-#[cfg(test)]
-mod tests;
 
 pub use laws::chosen_is_candidate;
 pub use laws::customers_decide;

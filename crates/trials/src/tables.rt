@@ -1,5 +1,5 @@
 // Paths told and taken back.
-use crate::table::PathTable;
+use selection::PathTable;
 use std::test::*;
 
 #[test]

@@ -1,9 +1,9 @@
 // Small tables, and the cycle that is told of each.
-use crate::matrix::Matrix;
-use crate::relation::Relation;
-use crate::relation::RelationPartialEq;
-use crate::sound::Unsound;
-use crate::sound::UnsoundDebug;
+use relations::Matrix;
+use relations::Relation;
+use relations::RelationPartialEq;
+use relations::Unsound;
+use relations::UnsoundDebug;
 use std::alloc::AllocError;
 use std::test::*;
 

@@ -1,0 +1,9 @@
+// Examples of what the libraries do, each proved to end and then run.
+#[cfg(test)]
+mod choosing;
+#[cfg(test)]
+mod cycles;
+#[cfg(test)]
+mod files;
+#[cfg(test)]
+mod tables;
