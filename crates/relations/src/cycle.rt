@@ -5,4 +5,3 @@ mod walk;
 
 pub use laws::first_is_unique;
 pub use laws::heights_exist;
-

@@ -28,12 +28,12 @@ next-number xs k h start now next inv step =
     let one : take (k + 1) xs ≡ take k xs ++ (x ∷ []) = take-more xs k 0 h in
     ⊎-elim
     (λ e.
-        let none : take k xs ≡ [] = ap (λ m. take m xs) e in
-        step ∙ (λ i. (inv ∙ ap (λ l. start ++ spelled l) none ∙ append-nil start) i ++ cond-true (eqb k 0) (decimal x) (codes ", " ++ decimal x) (eq-eqb k 0 e) i) ∙
-        ap (λ l. start ++ spelled l) (sym (one ∙ ap (λ l. l ++ (x ∷ [])) none)))
+    let none : take k xs ≡ [] = ap (λ m. take m xs) e in
+    step ∙ (λ i. (inv ∙ ap (λ l. start ++ spelled l) none ∙ append-nil start) i ++ cond-true (eqb k 0) (decimal x) (codes ", " ++ decimal x) (eq-eqb k 0 e) i) ∙
+    ap (λ l. start ++ spelled l) (sym (one ∙ ap (λ l. l ++ (x ∷ [])) none)))
     (λ n.
-        let some : 0 < length (take k xs) = omega (arith, length-take-le k xs (omega arith)) in
-        step ∙ (λ i. inv i ++ cond-false (eqb k 0) (decimal x) (codes ", " ++ decimal x) (ne-eqb k 0 n) i) ∙
-        append-assoc start (spelled (take k xs)) (codes ", " ++ decimal x) ∙
-        ap (λ l. start ++ l) (sym (ap spelled one ∙ spelled-after (take k xs) x some)))
+    let some : 0 < length (take k xs) = omega (arith, length-take-le k xs (omega arith)) in
+    step ∙ (λ i. inv i ++ cond-false (eqb k 0) (decimal x) (codes ", " ++ decimal x) (ne-eqb k 0 n) i) ∙
+    append-assoc start (spelled (take k xs)) (codes ", " ++ decimal x) ∙
+    ap (λ l. start ++ l) (sym (ap spelled one ∙ spelled-after (take k xs) x some)))
     (cases-eq k 0)

@@ -75,9 +75,9 @@ module _ (n : ℕ) (rel : Between) (a b k : ℕ)
   elsewhere i j ne =
       ⊎-elim
       (λ e. ⊎-elim
-        (λ f. (λ z. listed (with-pair rel a b (meant k) (e z) (f z)) (e z) (f z)) ∙ ap (λ x. listed x b a) (pair-turned rel a b (meant k) apart) ∙ listed-turned a b k known ∙ ap (λ x. listed x b a) (sym free′) ∙ (λ z. listed (rel (sym e z) (sym f z)) (sym e z) (sym f z)))
-        (λ f. ap (λ x. listed x i j) (pair-other rel a b (meant k) i j ne (λ h. f (h .1))))
-        (cases-eq j a))
+      (λ f. (λ z. listed (with-pair rel a b (meant k) (e z) (f z)) (e z) (f z)) ∙ ap (λ x. listed x b a) (pair-turned rel a b (meant k) apart) ∙ listed-turned a b k known ∙ ap (λ x. listed x b a) (sym free′) ∙ (λ z. listed (rel (sym e z) (sym f z)) (sym e z) (sym f z)))
+      (λ f. ap (λ x. listed x i j) (pair-other rel a b (meant k) i j ne (λ h. f (h .1))))
+      (cases-eq j a))
       (λ e. ap (λ x. listed x i j) (pair-other rel a b (meant k) i j ne (λ h. e (h .0))))
       (cases-eq i b)
 
@@ -87,9 +87,9 @@ module _ (n : ℕ) (rel : Between) (a b k : ℕ)
       upto-add (λ i. upto (λ j. listed (rel i j) i j) n) (λ i. upto (λ j. listed (with-pair rel a b (meant k) i j) i j) n) a n _ ha
       (λ i ne. upto-same _ _ n (λ j h. elsewhere i j (λ e. ne (e .0))))
       (upto-add (λ j. listed (rel a j) a j) (λ j. listed (with-pair rel a b (meant k) a j) a j) b n _ hb
-        (λ j ne. elsewhere a j (λ e. ne (e .1)))
-        (ap (λ x. listed x a b) (pair-here rel a b (meant k)) ∙ listed-here a b k known ∙ ap (λ x. listed x a b ++ (record { one = a; other = b; kind = k } ∷ [])) (sym free))
-        (λ j h. blank a j (grind (arith, tells))))
+      (λ j ne. elsewhere a j (λ e. ne (e .1)))
+      (ap (λ x. listed x a b) (pair-here rel a b (meant k)) ∙ listed-here a b k known ∙ ap (λ x. listed x a b ++ (record { one = a; other = b; kind = k } ∷ [])) (sym free))
+      (λ j h. blank a j (grind (arith, tells))))
       (λ i h. upto-blank (λ j. listed (rel i j) i j) 0 n (omega arith) (λ j l. blank i j (grind (arith, tells))))
 
 -- what a tie with no fault is
@@ -150,9 +150,9 @@ blank-after bs (suc k) clean i j h =
     let before = blank-after bs k (λ m l. clean m (omega arith)) i j (after-trans bs k a b i j (s .rising) h) in
     ⊎-elim
     (λ e. ⊎-elim
-      (λ f. (λ z. listed (with-pair (after bs k) a b (meant (kind bs k)) (e z) (f z)) (e z) (f z)) ∙ ap (λ x. listed x b a) (pair-turned (after bs k) a b (meant (kind bs k)) (s .apart)) ∙ listed-turned a b (kind bs k) (s .known))
-      (λ f. ap (λ x. listed x i j) (pair-other (after bs k) a b (meant (kind bs k)) i j ne (λ h. f (h .1))) ∙ before)
-      (cases-eq j a))
+    (λ f. (λ z. listed (with-pair (after bs k) a b (meant (kind bs k)) (e z) (f z)) (e z) (f z)) ∙ ap (λ x. listed x b a) (pair-turned (after bs k) a b (meant (kind bs k)) (s .apart)) ∙ listed-turned a b (kind bs k) (s .known))
+    (λ f. ap (λ x. listed x i j) (pair-other (after bs k) a b (meant (kind bs k)) i j ne (λ h. f (h .1))) ∙ before)
+    (cases-eq j a))
     (λ e. ap (λ x. listed x i j) (pair-other (after bs k) a b (meant (kind bs k)) i j ne (λ h. e (h .0))) ∙ before)
     (cases-eq i b)
 

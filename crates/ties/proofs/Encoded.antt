@@ -63,8 +63,7 @@ unfolding upto
 row-rising rel i zero = (tt, tt)
 row-rising rel i (suc m) =
     let before = row-rising rel i m in
-    let cell = cell-at (rel i m) i m in
-    (
+    let cell = cell-at (rel i m) i m in (
       rising-append _ _ (before .0) (cell .1) (all-cross _ _ _ _ (λ x y p q. grind (arith, tells)) (before .1) (cell .0)),
       all-append _ _ _ (all-weaker _ _ _ (λ x p. (p .0, omega (arith, p .1))) (before .1)) (all-weaker _ _ _ (λ x p. (p .0, omega (arith, p .1))) (cell .0)),
     )
@@ -74,8 +73,7 @@ unfolding upto
 rows-rising rel n zero = (tt, tt)
 rows-rising rel n (suc m) =
     let before = rows-rising rel n m in
-    let row = row-rising rel m n in
-    (
+    let row = row-rising rel m n in (
       rising-append _ _ (before .0) (row .0) (all-cross _ _ _ _ (λ x y p q. grind (arith, tells)) (before .1) (row .1)),
       all-append _ _ _ (all-weaker _ _ _ (λ x p. omega (arith, p)) (before .1)) (all-weaker _ _ _ (λ x p. omega (arith, p .0)) (row .1)),
     )
@@ -134,13 +132,13 @@ module _ (n : ℕ) (rel : Between) («mutual» : Mutual rel) (apart : Apart rel)
       let said : meant (u .kind) ≡ opposite (meant (t .kind)) = h .means ∙ back in
       ⊎-elim
       (λ k. ⊎-elim
-        (λ l. let z : _≡_ {A = ℕ} 0 1 = cc (ap meant l, ap (λ v. opposite (meant v)) k, said) in omega arith)
-        (λ l. let z : _≡_ {A = ℕ} 0 1 = cc (ap meant (l .0), ap (λ v. opposite (meant v)) k, said) in omega arith)
-        (h .known))
+      (λ l. let z : _≡_ {A = ℕ} 0 1 = cc (ap meant l, ap (λ v. opposite (meant v)) k, said) in omega arith)
+      (λ l. let z : _≡_ {A = ℕ} 0 1 = cc (ap meant (l .0), ap (λ v. opposite (meant v)) k, said) in omega arith)
+      (h .known))
       (λ k. ⊎-elim
-        (λ l. let z : _≡_ {A = ℕ} 0 1 = cc (ap meant l, ap (λ v. opposite (meant v)) (k .0), said) in omega arith)
-        (λ l. omega (arith, k .1, l .1))
-        (h .known))
+      (λ l. let z : _≡_ {A = ℕ} 0 1 = cc (ap meant l, ap (λ v. opposite (meant v)) (k .0), said) in omega arith)
+      (λ l. omega (arith, k .1, l .1))
+      (h .known))
       (g .known)
 
   abbrev file : List ℕ
@@ -258,8 +256,8 @@ module _ (n : ℕ) (rel : Between) («mutual» : Mutual rel) (apart : Apart rel)
       ⊎-elim
       (λ same. absurd (ne (sym e ∙ ap (λ z. rel i z) (sym same) ∙ apart i)))
       (⊎-elim
-        (λ l. paired-listed i j _ hi hj (ap (λ r. listed r i j) e ∙ cond-true (ltb i j) _ _ (lt-ltb i j l)) refl refl i j (grind (arith, tells)))
-        (λ l. paired-listed j i _ hj hi (ap (λ r. listed r j i) back ∙ cond-true (ltb j i) _ _ (lt-ltb j i l)) refl refl i j (grind (arith, tells))))
+      (λ l. paired-listed i j _ hi hj (ap (λ r. listed r i j) e ∙ cond-true (ltb i j) _ _ (lt-ltb i j l)) refl refl i j (grind (arith, tells)))
+      (λ l. paired-listed j i _ hj hi (ap (λ r. listed r j i) back ∙ cond-true (ltb j i) _ _ (lt-ltb j i l)) refl refl i j (grind (arith, tells))))
       (cases-order i j)
   paired-related i j Provider e ne =
       let back : rel j i ≡ Customer = «mutual» i j ∙ ap opposite e in
@@ -278,10 +276,10 @@ module _ (n : ℕ) (rel : Between) («mutual» : Mutual rel) (apart : Apart rel)
 
   pub encoded-faultless : (most : ℕ) → 0 < n → n ≤ 64 → n ≤ most → Faultless most file
   encoded-faultless most some few allowed = record {
-      head = none-told (head-has most file) head-clean;
-      each = λ m h. none-told (tie-has file m) (faultless-tie m (omega (arith, count-is)));
-      end = none-told (end-has file) end-clean;
-    }
+    head = none-told (head-has most file) head-clean;
+    each = λ m h. none-told (tie-has file m) (faultless-tie m (omega (arith, count-is)));
+    end = none-told (end-has file) end-clean;
+  }
     where
       head-clean : (c : Cause) → head-has most file c ≡ false
       head-clean UnknownKind = and-right (ltb 0 (length file)) false refl
@@ -294,6 +292,7 @@ module _ (n : ℕ) (rel : Between) («mutual» : Mutual rel) (apart : Apart rel)
       head-clean PeersTurned = refl
       head-clean Itself = refl
       head-clean TooMany = le-ltb most n allowed
+
       end-clean : (c : Cause) → end-has file c ≡ false
       end-clean UnknownKind = refl
       end-clean Cut = refl

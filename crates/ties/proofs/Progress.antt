@@ -88,13 +88,13 @@ module _ {bs : List ℕ} {k : ℕ} {r : Reader} {m : Matrix} {last : Option Tie}
       let yes-it : b ≡ true = allowed (none-has (tie-has bs k) clean-here) first-is second-is in
       let pair = when-true _ _ yes-it after-it in
       let step : Sofar bs (suc k) r′ m′ (Some t) = record {
-            source = e ∙ s .source;
-            at = omega (arith, s .at);
-            size = n ∙ s .size;
-            says = λ i j. pair i j ∙ (λ x. with-pair (λ a c. s .says a c x) (first-is x) (second-is x) (relation-is x) i j);
-            order = λ a c. λ i. rises (first-is i) (second-is i) a c;
-            clean = λ i h. ⊎-elim (λ below. s .clean i below) (λ above. let same : i ≡ k = omega arith in subst (λ z. told (tie-has bs z) ≡ None) (sym same) clean-here) (cases-lt i k);
-          } in
+        source = e ∙ s .source;
+        at = omega (arith, s .at);
+        size = n ∙ s .size;
+        says = λ i j. pair i j ∙ (λ x. with-pair (λ a c. s .says a c x) (first-is x) (second-is x) (relation-is x) i j);
+        order = λ a c. λ i. rises (first-is i) (second-is i) a c;
+        clean = λ i h. ⊎-elim (λ below. s .clean i below) (λ above. let same : i ≡ k = omega arith in subst (λ z. told (tie-has bs z) ≡ None) (sym same) clean-here) (cases-lt i k);
+      } in
       subst (λ z. Sofar bs z r′ m′ (Some t)) (sym (add-one k)) step
     where
       allowed : ((c : Cause) → tie-has bs k c ≡ false) → t .first ≡ first bs k → t .second ≡ second bs k → b ≡ true

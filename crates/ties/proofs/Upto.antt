@@ -60,7 +60,7 @@ module _ {X : Type 0} where
       ⊎-elim
       (λ below. let r = upto-at f m i q d below h in (r .0, omega (arith, length-append (upto f m) (f m), r .1), getD-append-left (upto f m) (f m) d (r .0) (r .1) ∙ r .2))
       (λ above.
-          let e : i ≡ m = omega arith in
-          let long : q < length (f m) = subst (λ z. q < length (f z)) e h in
-          (length (upto f m) + q, omega (arith, length-append (upto f m) (f m)), getD-append-add (upto f m) (f m) q d ∙ ap (λ z. getD (f z) q d) (sym e)))
+      let e : i ≡ m = omega arith in
+      let long : q < length (f m) = subst (λ z. q < length (f z)) e h in
+      (length (upto f m) + q, omega (arith, length-append (upto f m) (f m)), getD-append-add (upto f m) (f m) q d ∙ ap (λ z. getD (f z) q d) (sym e)))
       (cases-lt i m)

@@ -58,7 +58,10 @@ pub fn read(bytes: &[u8], most: u8, heap: Global) -> Result<Relations, Refusal>
     let matrix = read_ties(&mut reader, head, heap)?;
     if !reader.at_end() {
         let place = Place::End;
-        return Err(Refusal::Fault { place, cause: Cause::Surplus });
+        return Err(Refusal::Fault {
+            place,
+            cause: Cause::Surplus,
+        });
     }
     match matrix.sound(heap) {
         Ok(relations) => Ok(relations),

@@ -1,6 +1,7 @@
 // Writing a ties file.
 ghost use mathlib.Core.Path.{_≡_};
-ghost use mathlib.Core.List.{_++_};
+ghost use mathlib.Core.List.{[], _∷_, _++_};
+ghost use Prim.Native.Nat.{_/_, _%_, _<_};
 ghost use Rattle.std.specs.Joined.{joined};
 ghost use Rattle.std.specs.Of.Vec.{vec-items};
 ghost use Rattle.std.specs.Vec.{made};
@@ -43,6 +44,14 @@ fn push_ties(out: &mut Vec<u8>, relations: &Relations) -> Result<(), AllocError>
     Ok(())
 }
 
+// The first four bytes of a file with so many networks and ties.
+fn head(networks: u8, ties: usize) -> [u8; 4]
+    requires { ⌜ ties < 65536 ⌝ }
+    ensures { λ r. ⌜ r ≡ 16 ∷ networks ∷ ties / 256 ∷ ties % 256 ∷ [] ⌝ }
+{
+    [TIES, networks, (ties / 256) as u8, (ties % 256) as u8]
+}
+
 // The ties file of sound relations.
 pub fn encode(relations: &Relations, heap: Global) -> Result<Vec<u8>, AllocError>
     ensures { λ r. ⌜ made r (λ v. vec-items v ≡ encoding (networks-of (now (relations .entry))) (relation-of (now (relations .entry)))) ⌝ }
@@ -51,7 +60,7 @@ pub fn encode(relations: &Relations, heap: Global) -> Result<Vec<u8>, AllocError
     push_ties(&mut ties, relations)?;
     let count = ties.len() / 3;
     let mut out = Vec::new(heap);
-    out.extend_from_slice(&[TIES, relations.networks(), (count / 256) as u8, (count % 256) as u8])?;
+    out.extend_from_slice(&head(relations.networks(), count))?;
     out.extend_from_slice(ties.as_slice())?;
     Ok(out)
 }

@@ -1,12 +1,14 @@
 // The ties file: relations between networks as bytes, read exactly and written.
+mod account;
 mod decoder;
 mod encoder;
 mod laws;
 mod refusal;
-mod account;
 mod tie;
 mod wording;
 
+pub use account::count_ties;
+pub use account::summary;
 pub use decoder::read;
 pub use encoder::encode;
 pub use laws::encoded_is_faultless;
@@ -20,5 +22,3 @@ pub use refusal::Place;
 pub use refusal::PlaceDebug;
 pub use refusal::PlacePartialEq;
 pub use refusal::Refusal;
-pub use account::count_ties;
-pub use account::summary;

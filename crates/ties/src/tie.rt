@@ -83,7 +83,11 @@ impl Tie {
             2 => Relation::Peer,
             _ => return Err(Cause::UnknownKind),
         };
-        let tie = Tie { first, second, relation };
+        let tie = Tie {
+            first,
+            second,
+            relation,
+        };
         match tie.fault(matrix, last) {
             Some(cause) => Err(cause),
             None => Ok(tie),

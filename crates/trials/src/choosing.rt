@@ -45,12 +45,21 @@ fn the_order_of_choosing(rt: LibcRuntime) -> Result<(), Fail> {
     let up = [true, true, true, true];
     let longer: &[u8] = &[0, 3, 5];
     let short: &[u8] = &[2, 5];
-    check_eq(chosen(rt, &up, &[(0, longer), (2, short)])?, Some(0)).note("a customer's longer path")?;
+    check_eq(chosen(rt, &up, &[(0, longer), (2, short)])?, Some(0)).note(
+        "a customer's longer path",
+    )?;
     check_eq(chosen(rt, &up, &[(0, longer), (1, &[1, 5])])?, Some(1)).note("the shorter path")?;
     check_eq(chosen(rt, &up, &[(0, &[0, 5]), (1, &[1, 5])])?, Some(0)).note("the lower number")?;
-    check_eq(chosen(rt, &up, &[(3, &[3, 5]), (2, short)])?, Some(2)).note("a peer before a provider")?;
-    check_eq(chosen(rt, &up, &[(0, &[0, 4, 5]), (3, &[3, 5])])?, Some(3)).note("its own path passed over")?;
-    check_eq(chosen(rt, &[false, true, true, true], &[(0, longer), (2, short)])?, Some(2)).note("a link that is down")?;
+    check_eq(chosen(rt, &up, &[(3, &[3, 5]), (2, short)])?, Some(2)).note(
+        "a peer before a provider",
+    )?;
+    check_eq(chosen(rt, &up, &[(0, &[0, 4, 5]), (3, &[3, 5])])?, Some(3)).note(
+        "its own path passed over",
+    )?;
+    check_eq(
+        chosen(rt, &[false, true, true, true], &[(0, longer), (2, short)])?,
+        Some(2),
+    ).note("a link that is down")?;
     check_eq(chosen(rt, &up, &[])?, None).note("nothing told")
 }
 

@@ -50,7 +50,10 @@ fn faults_of_a_tie(rt: LibcRuntime) -> Result<(), Fail> {
     for (bytes, number, k) in cases {
         check_eq(fault(rt, bytes, MOST)?, (number, Place::Tie(k)))?;
     }
-    check_eq(fault(rt, &[16, 3, 0, 1, 0, 1, 1, 0], MOST)?, (1, Place::End))
+    check_eq(
+        fault(rt, &[16, 3, 0, 1, 0, 1, 1, 0], MOST)?,
+        (1, Place::End),
+    )
 }
 
 #[test]

@@ -13,6 +13,13 @@ use crate::relation::Relation;
 use std::alloc::AllocError;
 use std::alloc::Global;
 
+// The number of networks, 64 where it is above that.
+fn at_most(networks: u8) -> u8
+    ensures { λ r. ⌜ r ≡ min networks 64 ⌝ }
+{
+    networks.min(MOST)
+}
+
 impl Matrix {
     // No network is related to another. Of more than 64 networks the first 64 are taken.
     pub fn new(heap: Global, networks: u8) -> Result<Matrix, AllocError>
@@ -20,7 +27,7 @@ impl Matrix {
     {
         let rows = vec![in heap; Relation::Unrelated; 4096]?;
         Ok(Matrix {
-            networks: networks.min(MOST),
+            networks: at_most(networks),
             rows,
         })
     }

@@ -12,14 +12,14 @@ use Rattle.ties.proofs.Encoded.{length-bytes}
 use Rattle.ties.proofs.Written.{listing-short}
 use Rattle.ties.proofs.encoder.encode.Needs as need
 
-pub cast-count : need.cast-count
-cast-count c =
+pub head-requires : need.head-requires
+head-requires c κs =
     let r = c .args .relations .now in
     let list = listing (networks r) (relation r) in
     let body : vec-items (c .push-ties .last .out) ≡ joined bytes-of list = c .in-Continue-push-ties .ensures tt ∙ ap (λ l. l ++ joined bytes-of list) (c .new-ties .ensures .items) in
     let long : c .len-count .result ≡ 3 * length list = c .len-count .ensures ∙ c .push-ties .last .out .ok .0 ∙ ap length body ∙ length-bytes list in
     let short = listing-short (networks r) (relation r) (r .matrix .few) in
-    record { fits = omega arith }
+    omega arith
 
 pub returns : need.returns
 returns c =
@@ -29,5 +29,5 @@ returns c =
     let long : c .len-count .result ≡ 3 * length list = c .len-count .ensures ∙ c .push-ties .last .out .ok .0 ∙ ap length body ∙ length-bytes list in
     let count : c .len-count .result / 3 ≡ length list = omega arith in
     c .in-Continue-extend-from-slice-2 .ensures tt .items ∙
-    (λ i. (c .in-Continue-extend-from-slice .ensures tt .items ∙ ap (λ l. l ++ (16 ∷ c .networks .result ∷ c .len-count .result / 3 / 256 ∷ c .len-count .result / 3 % 256 ∷ [])) (c .new-out .ensures .items)) i ++ (c .as-slice .ensures .value ∙ body) i) ∙
+    (λ i. (c .in-Continue-extend-from-slice .ensures tt .items ∙ (λ k. c .new-out .ensures .items k ++ c .head .ensures k)) i ++ (c .as-slice .ensures .value ∙ body) i) ∙
     (λ i. 16 ∷ c .networks .ensures i ∷ count i / 256 ∷ count i % 256 ∷ joined bytes-of list)
