@@ -21,18 +21,15 @@ abbrev pub Heard : Rows → ℕ → ℕ → (ℕ → Bool) → (ℕ → Option (
 Heard before n block up says k whom = (j : ℕ) → whom j ≡ (ltb block n && ltb j k && up j && not (same-saying (says j) (before block j)))
 
 module _ (before : Rows) (n block : ℕ) (up : ℕ → Bool) (says : ℕ → Option (List ℕ)) (k : ℕ) (rows : Rows) (whom : ℕ → Bool) (inv : Below before n block up says k rows) (heard : Heard before n block up says k whom) where
-  pub down-below : up k ≡ false → Below before n block up says (k + 1) rows
-  down-below u b j =
-      let i = inv b j in
-      ⊎-elim (λ e. let v : up j ≡ false = ap up e ∙ u in grind (arith, tells, i, v)) (λ ne. grind (arith, tells, i)) (cases-eq j k)
-
-  pub down-heard : up k ≡ false → Heard before n block up says (k + 1) whom
-  down-heard u j =
-      let i = heard j in
-      ⊎-elim (λ e. let v : up j ≡ false = ap up e ∙ u in grind (arith, tells, i, v)) (λ ne. grind (arith, tells, i)) (cases-eq j k)
+  -- over a link that is down nothing is told
+  pub turn-down : up k ≡ false → Below before n block up says (k + 1) rows × Heard before n block up says (k + 1) whom
+  turn-down u = (
+    λ b j. let i = inv b j in ⊎-elim (λ e. let v : up j ≡ false = ap up e ∙ u in grind (arith, tells, i, v)) (λ ne. grind (arith, tells, i)) (cases-eq j k),
+    λ j. let i = heard j in ⊎-elim (λ e. let v : up j ≡ false = ap up e ∙ u in grind (arith, tells, i, v)) (λ ne. grind (arith, tells, i)) (cases-eq j k),
+  )
 
   module _ (m : ℕ) (same : m ≡ n) (u : up k ≡ true) (h : k < 64) (t : Option (List ℕ)) (is : says k ≡ t) where
-    pub told-below : (new : Rows) → ((b j : ℕ) → new b j ≡ cond (ltb block m && ltb k 64) (with-row rows block k t b j) (rows b j)) → Below before n block up says (k + 1) new
+    told-below : (new : Rows) → ((b j : ℕ) → new b j ≡ cond (ltb block m && ltb k 64) (with-row rows block k t b j) (rows b j)) → Below before n block up says (k + 1) new
     told-below new after b j =
         let i = inv b j in
         let a = after b j in
@@ -47,20 +44,15 @@ module _ (before : Rows) (n block : ℕ) (up : ℕ → Bool) (says : ℕ → Opt
         let r : rows block k ≡ before block k = grind (arith, tells, i) in
         (λ l. same-saying (says (e l)) (before block (e l))) ∙ (λ l. same-saying (is l) (sym r l))
 
-    module _ (r : Bool) (test : r ≡ (ltb block m && ltb k 64 && not (same-saying t (rows block k)))) where
-      pub told-heard : r ≡ true → (new : ℕ → Bool) → ((j : ℕ) → new j ≡ (whom j || (eqb j k && ltb k 64))) → Heard before n block up says (k + 1) new
-      told-heard yes-it new after j =
-          let i = heard j in
-          let a = after j in
-          ⊎-elim
-          (λ e. let v : up j ≡ true = ap up e ∙ u in let s = same-test j e in grind (arith, tells, i, a, v, s, test))
-          (λ ne. grind (arith, tells, i, a))
-          (cases-eq j k)
+    told-heard : (r : Bool) → r ≡ (ltb block m && ltb k 64 && not (same-saying t (rows block k))) → (new : ℕ → Bool) → ((j : ℕ) → new j ≡ (whom j || (r && eqb j k))) → Heard before n block up says (k + 1) new
+    told-heard r test new after j =
+        let i = heard j in
+        let a = after j in
+        ⊎-elim
+        (λ e. let v : up j ≡ true = ap up e ∙ u in let s = same-test j e in grind (arith, tells, i, a, v, s, test))
+        (λ ne. grind (arith, tells, i, a))
+        (cases-eq j k)
 
-      pub same-heard : r ≡ false → Heard before n block up says (k + 1) whom
-      same-heard not-it j =
-          let i = heard j in
-          ⊎-elim
-          (λ e. let v : up j ≡ true = ap up e ∙ u in let s = same-test j e in grind (arith, tells, i, v, s, test))
-          (λ ne. grind (arith, tells, i))
-          (cases-eq j k)
+    -- over a link that is up the neighbour is told, and added if that was something else
+    pub turn-up : (r : Bool) → r ≡ (ltb block m && ltb k 64 && not (same-saying t (rows block k))) → (new : Rows) → ((b j : ℕ) → new b j ≡ cond (ltb block m && ltb k 64) (with-row rows block k t b j) (rows b j)) → (more : ℕ → Bool) → ((j : ℕ) → more j ≡ (whom j || (r && eqb j k))) → Below before n block up says (k + 1) new × Heard before n block up says (k + 1) more
+    turn-up r test new after more adds = (told-below new after, told-heard r test more adds)
