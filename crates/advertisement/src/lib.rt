@@ -3,6 +3,8 @@ mod audience;
 mod laws;
 mod policy;
 mod telling;
+#[cfg(test)]
+mod tests;
 mod update;
 
 pub use audience::Audience;

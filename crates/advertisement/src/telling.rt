@@ -96,6 +96,23 @@ pub fn tell(
     }
 }
 
+// Tells the neighbour if its link is up.
+fn tell_if_up(
+    relations: &Relations,
+    up: &[bool],
+    advertised: &mut PathTable,
+    me: u8,
+    block: u16,
+    route: Route,
+    neighbour: u8,
+) -> bool
+    ensures test { λ r. ⌜ r ≡ (getD (now (up .entry)) neighbour false && (ltb block (count (now (advertised .entry))) && ltb neighbour 64 && not (same-saying (told (relation-of (now (relations .entry)) me) me neighbour (meaning (route .entry))) (row (now (advertised .entry)) block neighbour)))) ⌝ }
+    ensures same { λ _. ⌜ count (now (advertised .exit)) ≡ count (now (advertised .entry)) ⌝ }
+    ensures after { λ _. ⌜ ((b j : ℕ) → row (now (advertised .exit)) b j ≡ cond (getD (now (up .entry)) neighbour false && (ltb block (count (now (advertised .entry))) && ltb neighbour 64)) (with-row (row (now (advertised .entry))) block neighbour (told (relation-of (now (relations .entry)) me) me neighbour (meaning (route .entry))) b j) (row (now (advertised .entry)) b j)) ⌝ }
+{
+    is_up(up, neighbour) && tell(relations, advertised, me, block, route, neighbour)
+}
+
 // Tells each neighbour whose link is up, in the order of their numbers, what is new to it; the answer says whom.
 pub fn advertise(
     relations: &Relations,
@@ -111,10 +128,7 @@ pub fn advertise(
 {
     let mut audience = Audience::nobody();
     for k in 0..relations.networks() {
-        if !is_up(up, k) {
-            continue;
-        }
-        if tell(relations, advertised, me, block, route, k) {
+        if tell_if_up(relations, up, advertised, me, block, route, k) {
             audience.insert(k);
         }
     }
