@@ -58,7 +58,7 @@ may Provider e = refl
 pub all-to-customers : AllToCustomers
 all-to-customers =
     record {
-      own = λ rel me k e. ap (λ r. cond (related r) (Some (me ∷ [])) None) e
-    ; other = λ rel me j k p e f h.
-        ap (λ r. cond (may-tell (rel j) r) (in-front me p) None) e ∙ ap (λ t. cond t (in-front me p) None) (may (rel j) f) ∙ cond-true (ltb (length p) 64) (Some (me ∷ p)) None (lt-ltb (length p) 64 h)
+      own = λ rel me k e. ap (λ r. cond (related r) (Some (me ∷ [])) None) e;
+      other = λ rel me j k p e f h.
+          ap (λ r. cond (may-tell (rel j) r) (in-front me p) None) e ∙ ap (λ t. cond t (in-front me p) None) (may (rel j) f) ∙ cond-true (ltb (length p) 64) (Some (me ∷ p)) None (lt-ltb (length p) 64 h);
     }

@@ -3,6 +3,7 @@ ghost use mathlib.Core.Path.{_≡_};
 ghost use mathlib.Core.Bool.{_&&_, _||_, false};
 ghost use Prim.Native.Nat.{ℕ};
 ghost use lib.Dec.{eqb, ltb};
+ghost use lib.ListN.{replicate};
 ghost use Rattle.advertisement.specs.Audiences.{in-audience};
 use relations::MOST;
 
@@ -16,7 +17,13 @@ impl Audience {
     pub fn nobody() -> Audience
         ensures { λ r. ⌜ ((k : ℕ) → in-audience r k ≡ false) ⌝ }
     {
-        Audience { told: [false; 64] }
+        Audience::all(false)
+    }
+
+    fn all(marked: bool) -> Audience
+        ensures { λ r. ⌜ r .told ≡ replicate 64 marked ⌝ }
+    {
+        Audience { told: [marked; 64] }
     }
 
     pub fn contains(self, neighbour: u8) -> bool

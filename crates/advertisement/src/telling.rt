@@ -34,7 +34,10 @@ fn onward<'a>(relations: &Relations, me: u8, route: Route<'a>, neighbour: u8) ->
         Route::Nothing => None,
         Route::Local if matches!(to, Relation::Unrelated) => None,
         Route::Local => Some(&[]),
-        Route::Via { neighbour: from, path } => {
+        Route::Via {
+            neighbour: from,
+            path,
+        } => {
             if may_tell(relations.relation(me, from), to) && path.len() < 64 {
                 Some(path)
             } else {

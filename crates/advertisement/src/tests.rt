@@ -20,32 +20,23 @@ fn ties(rt: LibcRuntime) -> Result<Relations, Fail> {
 #[test]
 fn only_what_is_new(rt: LibcRuntime) -> Result<(), Fail> {
     let ties = ties(rt)?;
-    let mut advertised = PathTable::new(rt.alloc(), 1)?;
-    let one = Route::Via {
-        neighbour: 1,
-        path: &[1, 8],
-    };
-    let other = Route::Via {
-        neighbour: 1,
-        path: &[1, 9],
-    };
-    check(tell(&ties, &mut advertised, 0, 0, one, 2))?;
-    check(!tell(&ties, &mut advertised, 0, 0, one, 2))?;
-    check(tell(&ties, &mut advertised, 0, 0, other, 2))?;
-    check(advertised.path(0, 2).ok_or("no path")? == [0, 1, 9].as_slice())?;
-    check(tell(&ties, &mut advertised, 0, 0, Route::Nothing, 2))?;
-    check(advertised.path(0, 2).is_none())
+    let mut told = PathTable::new(rt.alloc(), 1)?;
+    let [one, other] = [[1, 8], [1, 9]];
+    for (path, new) in [(&one, true), (&one, false), (&other, true)] {
+        let route = Route::Via { neighbour: 1, path };
+        check(tell(&ties, &mut told, 0, 0, route, 2) == new)?;
+    }
+    check(told.path(0, 2).ok_or("no path")? == [0, 1, 9].as_slice())?;
+    check(tell(&ties, &mut told, 0, 0, Route::Nothing, 2))?;
+    check(told.path(0, 2).is_none())
 }
 
 #[test]
 fn a_peers_path_is_for_customers(rt: LibcRuntime) -> Result<(), Fail> {
     let ties = ties(rt)?;
-    let mut advertised = PathTable::new(rt.alloc(), 1)?;
-    let up = [true, true, true, true];
-    let peers = Route::Via {
-        neighbour: 3,
-        path: &[3, 9],
-    };
-    let told = advertise(&ties, &up, &mut advertised, 0, 0, peers);
-    check(told.contains(1) && !told.contains(2) && !told.contains(3))
+    let mut told = PathTable::new(rt.alloc(), 1)?;
+    let path = &[3, 9];
+    let route = Route::Via { neighbour: 3, path };
+    let whom = advertise(&ties, &[true; 4], &mut told, 0, 0, route);
+    check(whom.contains(1) && !whom.contains(2) && !whom.contains(3))
 }

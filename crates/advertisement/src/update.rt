@@ -39,7 +39,7 @@ impl Announcement {
 
 impl Update {
     // The announcement of a path; none for a path of no network or of more than 64.
-    pub fn announce(block: u16, path: &[u8]) -> Option<Update>
+    pub fn announce(block: u16, path: &[u8]) -> Option<Self>
         ensures test { λ r. ⌜ isSome r ≡ (ltb 0 (length (now (path .entry))) && leb (length (now (path .entry))) 64) ⌝ }
         ensures says { λ r. ⌜ Cases r (Unit {0}) (λ u. (block-of u ≡ block) × (said u ≡ Some (now (path .entry)))) ⌝ }
     {
@@ -50,10 +50,10 @@ impl Update {
     }
 
     // What takes back the path of a block.
-    pub fn withdraw(block: u16) -> Update
+    pub fn withdraw(block: u16) -> Self
         ensures { λ r. ⌜ (block-of r ≡ block) × (said r ≡ None) ⌝ }
     {
-        Update::Withdraw { block }
+        Self::Withdraw { block }
     }
 
     // The block that it is of.
@@ -77,6 +77,7 @@ pub fn update_of(table: &PathTable, block: u16, neighbour: u8) -> Update
     }
 }
 
+// The announcement of a path that fits.
 fn announced(block: u16, path: &[u8]) -> Update
     requires { ⌜ length (now path) ≤ 64 ⌝ }
     ensures { λ r. ⌜ (block-of r ≡ block) × (said r ≡ Some (now (path .entry))) ⌝ }

@@ -44,7 +44,7 @@ returns c =
     let says : ℕ → Option (List ℕ) = λ j. tells (relation-of (c .args .relations .now) (c .args .me)) up (c .args .me) j (meaning (c .args .route)) in
     let all : c .loop-k .k ≡ networks-of (c .args .relations .now) = omega (arith, c .networks-k-end .ensures) in
     record {
-      rows = subst (λ k. Below (row before) (count before) (c .args .block) up says k (row (c .loop-k .advertised))) all (c .loop-k .inv .0)
-    ; whom = subst (λ k. Heard (row before) (count before) (c .args .block) up says k (in-audience (c .loop-k .audience))) all (c .loop-k .inv .1)
-    ; same = c .loop-k .inv .2
+      rows = subst (λ k. Below (row before) (count before) (c .args .block) up says k (row (c .loop-k .advertised))) all (c .loop-k .inv .0);
+      whom = subst (λ k. Heard (row before) (count before) (c .args .block) up says k (in-audience (c .loop-k .audience))) all (c .loop-k .inv .1);
+      same = c .loop-k .inv .2;
     }
