@@ -1,4 +1,4 @@
-// What is told, told again, told otherwise and taken back.
+// A customer's path is told, told again and told otherwise; a peer's path, which is for customers only, takes it back.
 use crate::telling::advertise;
 use crate::telling::tell;
 use relations::Matrix;
@@ -21,22 +21,22 @@ fn ties(rt: LibcRuntime) -> Result<Relations, Fail> {
 fn only_what_is_new(rt: LibcRuntime) -> Result<(), Fail> {
     let ties = ties(rt)?;
     let mut told = PathTable::new(rt.alloc(), 1)?;
-    let [one, other] = [[1, 8], [1, 9]];
-    for (path, new) in [(&one, true), (&one, false), (&other, true)] {
-        let route = Route::Via { neighbour: 1, path };
-        check(tell(&ties, &mut told, 0, 0, route, 2) == new)?;
-    }
-    check(told.path(0, 2).ok_or("no path")? == [0, 1, 9].as_slice())?;
-    check(tell(&ties, &mut told, 0, 0, Route::Nothing, 2))?;
+    let one = Route::Via {
+        neighbour: 1,
+        path: &[1, 8],
+    };
+    let other = Route::Via {
+        neighbour: 1,
+        path: &[1, 9],
+    };
+    check(tell(&ties, &mut told, 0, 0, one, 2))?;
+    check(!tell(&ties, &mut told, 0, 0, one, 2))?;
+    check(tell(&ties, &mut told, 0, 0, other, 2))?;
+    let peers = Route::Via {
+        neighbour: 3,
+        path: &[3, 9],
+    };
+    let whom = advertise(&ties, &[true; 4], &mut told, 0, 0, peers);
+    check(whom.contains(1) && whom.contains(2) && !whom.contains(3))?;
     check(told.path(0, 2).is_none())
-}
-
-#[test]
-fn a_peers_path_is_for_customers(rt: LibcRuntime) -> Result<(), Fail> {
-    let ties = ties(rt)?;
-    let mut told = PathTable::new(rt.alloc(), 1)?;
-    let path = &[3, 9];
-    let route = Route::Via { neighbour: 3, path };
-    let whom = advertise(&ties, &[true; 4], &mut told, 0, 0, route);
-    check(whom.contains(1) && !whom.contains(2) && !whom.contains(3))
 }

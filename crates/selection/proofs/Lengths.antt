@@ -7,7 +7,6 @@ use native.Mathlib.Omega.{arith}
 use lib.Dec.{eqb, ltb}
 use lib.ListN.{length, getD, take, drop, length-take, length-drop}
 use Rattle.std.proofs.shelf.Tests.{and-parts, eqb-false, ltb-true}
-use Rattle.std.specs.declared.option.Option.{Option}
 use Rattle.std.specs.declared.option.Option.the-variants.{None, Some}
 use Rattle.selection.specs.Paths.{row}
 use Rattle.selection.specs.declared.table.PathTable.{PathTable}

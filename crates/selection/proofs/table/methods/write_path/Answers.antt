@@ -3,7 +3,7 @@ use mathlib.Core.Path.{_≡_, sym, _∙_}
 use mathlib.Core.Logic.{⊎-elim}
 use borrow.Author.Count.{below-more}
 use native.Mathlib.Omega.{arith}
-use lib.ListN.{getD, length, set}
+use lib.ListN.{getD, length}
 use Rattle.std.proofs.shelf.Lists.{getD-past, getD-set-same, getD-set-other}
 use Rattle.std.proofs.shelf.Tests.{cases-lt}
 use Rattle.selection.proofs.table.methods.write_path.Needs as need
