@@ -1,1 +1,5 @@
 pub mod Telling
+pub mod Sayings
+pub mod Updates
+pub mod Audiences
+pub mod Laws

@@ -2,4 +2,5 @@ pub mod Best
 mod Bytes
 mod Cells
 pub mod Chosen
+pub mod Lengths
 pub mod Ranks

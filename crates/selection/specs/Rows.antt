@@ -2,8 +2,8 @@
 use mathlib.Core.Path.{_≡_}
 use mathlib.Core.Bool.{cond, _&&_}
 use mathlib.Core.List.{List}
-use Prim.Native.Nat.{ℕ, _+_, _-_, _*_, _/_, _%_, _≤_}
-use lib.Dec.{ltb, leb, eqb}
+use Prim.Native.Nat.{ℕ, _+_, _*_, _/_, _%_, _≤_}
+use lib.Dec.{ltb, eqb}
 use lib.ListN.{getD, length, take, drop}
 use Rattle.std.specs.declared.option.Option.{Option}
 use Rattle.std.specs.declared.option.Option.the-variants.{None, Some}
@@ -19,10 +19,6 @@ Padded lengths cells = (q : ℕ) → getD lengths (q / 64) 0 ≤ q % 64 → getD
 -- the path of row r
 abbrev pub told : List ℕ → List ℕ → ℕ → Option (List ℕ)
 told lengths cells r = cond (eqb (getD lengths r 0) 0) None (Some (take (getD lengths r 0) (drop (r * 64) cells)))
-
--- the place q of the cells after the first k places of row r were written: the path, and zero past it
-abbrev pub written : List ℕ → ℕ → List ℕ → ℕ → ℕ → ℕ
-written cells r path k q = cond (leb (r * 64) q && ltb q (r * 64 + k)) (getD path (q - r * 64) 0) (getD cells q 0)
 
 -- what each row says, by block and neighbour
 abbrev pub Rows : Type 0

@@ -14,5 +14,6 @@ pub use laws::rank_decides;
 pub use laws::same_rows_same_bytes;
 pub use laws::strict_order;
 pub use route::Route;
+pub use selecting::is_up;
 pub use selecting::select;
 pub use table::PathTable;

@@ -43,7 +43,7 @@ fn passes(path: &[u8], me: u8) -> bool
 }
 
 // Whether the link to the neighbour is up.
-fn is_up(up: &[bool], neighbour: u8) -> bool
+pub fn is_up(up: &[bool], neighbour: u8) -> bool
     ensures { λ r. ⌜ r ≡ getD (now (up .entry)) neighbour false ⌝ }
 {
     let at = neighbour as usize;

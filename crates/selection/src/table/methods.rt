@@ -1,16 +1,16 @@
 // Making, reading and writing the table.
 ghost use mathlib.Core.Path.{_≡_};
 ghost use mathlib.Core.Bool.{_&&_};
+ghost use mathlib.Core.List.{_∷_};
 ghost use Prim.Native.Nat.{ℕ, _*_, _+_, _<_, _≤_, min};
 ghost use lib.Dec.{leb, ltb};
 ghost use lib.ListN.{getD, length};
 ghost use Rattle.std.specs.Options.{mapped};
-ghost use Rattle.std.specs.Of.Vec.{vec-items, vec-len};
 ghost use Rattle.std.specs.Orderings.{When};
 ghost use Rattle.std.specs.Vec.{made};
 ghost use Rattle.std.specs.declared.option.Option.the-variants.{None, Some};
 ghost use Rattle.selection.specs.Paths.{count, row};
-ghost use Rattle.selection.specs.Rows.{said, with-row, written};
+ghost use Rattle.selection.specs.Rows.{said, with-row};
 use crate::table::PathTable;
 use relations::MOST;
 use std::alloc::AllocError;
@@ -77,6 +77,20 @@ impl PathTable {
         true
     }
 
+    // From now on `first`, followed by `path`, is the path for `block` that `neighbour` told. False, and nothing done,
+    // for a path of 64 networks or more, and for a block or a neighbour that there is not.
+    pub fn set_in_front(&mut self, block: u16, neighbour: u8, first: u8, path: &[u8]) -> bool
+        ensures test { λ r. ⌜ r ≡ (ltb block (count (now (self .entry))) && ltb neighbour 64 && ltb (length (now (path .entry))) 64) ⌝ }
+        ensures same { λ _. ⌜ count (now (self .exit)) ≡ count (now (self .entry)) ⌝ }
+        ensures after { λ r. ⌜ When r ((b j : ℕ) → row (now (self .exit)) b j ≡ with-row (row (now (self .entry))) block neighbour (Some (first ∷ now (path .entry))) b j) (now (self .exit) ≡ now (self .entry)) ⌝ }
+    {
+        if block >= self.blocks || neighbour >= MOST || path.len() >= 64 {
+            return false;
+        }
+        self.write_in_front(block, neighbour, first, path);
+        true
+    }
+
     // From now on `neighbour` told nothing for `block`.
     pub fn clear(&mut self, block: u16, neighbour: u8)
         ensures same { λ _. ⌜ count (now (self .exit)) ≡ count (now (self .entry)) ⌝ }
@@ -97,18 +111,39 @@ impl PathTable {
     {
         let row = block as usize * 64 + neighbour as usize;
         self.lengths[row] = path.len() as u8;
-        write_row(&mut self.cells, row, path);
+        let cells = self.cells.as_mut_slice();
+        write_path(&mut cells[row * 64..row * 64 + 64], path);
+    }
+
+    // Writes `first` and then the path into the row of `block` and `neighbour`.
+    fn write_in_front(&mut self, block: u16, neighbour: u8, first: u8, path: &[u8])
+        requires there { ⌜ block < count (now self) ⌝ ∗ ⌜ neighbour < 64 ⌝ }
+        requires fits { ⌜ length (now path) < 64 ⌝ }
+        ensures same { λ _. ⌜ count (now (self .exit)) ≡ count (now (self .entry)) ⌝ }
+        ensures after { λ _. ⌜ ((b j : ℕ) → row (now (self .exit)) b j ≡ with-row (row (now (self .entry))) block neighbour (Some (first ∷ now (path .entry))) b j) ⌝ }
+    {
+        let row = block as usize * 64 + neighbour as usize;
+        self.lengths[row] = path.len() as u8 + 1;
+        let cells = self.cells.as_mut_slice();
+        write_front(&mut cells[row * 64..row * 64 + 64], first, path);
     }
 }
 
-// Writes the path into its row, and zeros past it.
-fn write_row(cells: &mut Vec<u8>, row: usize, path: &[u8])
-    requires { ⌜ row * 64 + 64 ≤ vec-len (now cells) ⌝ }
-    ensures len { λ _. ⌜ vec-len (now (cells .exit)) ≡ vec-len (now (cells .entry)) ⌝ }
-    ensures places { λ _. ⌜ ((q : ℕ) → getD (vec-items (now (cells .exit))) q 0 ≡ written (vec-items (now (cells .entry))) row (now (path .entry)) 64 q) ⌝ }
+// Writes the path into the part, and zeros past it.
+fn write_path(part: &mut [u8], path: &[u8])
+    requires { ⌜ length (now path) ≤ length (now part) ⌝ }
+    ensures { λ _. ⌜ ((k : ℕ) → getD (now (part .exit)) k 0 ≡ getD (now (path .entry)) k 0) ⌝ }
 {
-    for k in 0..64 {
-        let network = if k < path.len() { path[k] } else { 0 };
-        cells[row * 64 + k] = network;
+    for k in 0..part.len() {
+        part[k] = if k < path.len() { path[k] } else { 0 };
     }
+}
+
+// Writes `first` and then the path into the part, and zeros past them.
+fn write_front(part: &mut [u8], first: u8, path: &[u8])
+    requires { ⌜ length (now path) < length (now part) ⌝ }
+    ensures { λ _. ⌜ ((k : ℕ) → getD (now (part .exit)) k 0 ≡ getD (first ∷ now (path .entry)) k 0) ⌝ }
+{
+    part[0] = first;
+    write_path(&mut part[1..], path);
 }

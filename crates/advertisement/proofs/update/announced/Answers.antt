@@ -1,0 +1,11 @@
+-- What is copied to the front is the path.
+use mathlib.Core.Path.{refl, ap, _∙_}
+use lib.ListN.{length}
+use Rattle.std.proofs.shelf.Lists.{take-at}
+use Rattle.std.specs.declared.option.Option.the-variants.{Some}
+use Rattle.advertisement.proofs.update.announced.Needs as need
+
+pub returns : need.returns
+returns c =
+    let e = c .copy-from-slice .ensures .after in
+    (refl, ap Some (take-at (c .copy-from-slice .last .self) _ _ (ap length e) ∙ e))
