@@ -3,8 +3,6 @@ mod audience;
 mod laws;
 mod policy;
 mod telling;
-#[cfg(test)]
-mod tests;
 mod update;
 
 pub use audience::Audience;

@@ -15,5 +15,6 @@ pub use laws::same_rows_same_bytes;
 pub use laws::strict_order;
 pub use route::Route;
 pub use selecting::is_up;
+pub use selecting::passes;
 pub use selecting::select;
 pub use table::PathTable;

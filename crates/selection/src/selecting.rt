@@ -31,7 +31,7 @@ fn is_related(relation: Relation) -> bool
 }
 
 // Whether the path passes the network `me`.
-fn passes(path: &[u8], me: u8) -> bool
+pub fn passes(path: &[u8], me: u8) -> bool
     ensures { λ r. ⌜ r ≡ passes-by me (now (path .entry)) ⌝ }
 {
     for network in path {

@@ -7,3 +7,5 @@ mod cycles;
 mod files;
 #[cfg(test)]
 mod tables;
+#[cfg(test)]
+mod telling;

@@ -1,6 +1,6 @@
 // A customer's path is told, told again and told otherwise; a peer's path, which is for customers only, takes it back.
-use crate::telling::advertise;
-use crate::telling::tell;
+use advertisement::advertise;
+use advertisement::tell;
 use relations::Matrix;
 use relations::Relation;
 use relations::Relations;
