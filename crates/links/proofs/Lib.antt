@@ -1,0 +1,5 @@
+mod Scans
+mod Retelling
+mod Faults
+mod Receiving
+mod Turning

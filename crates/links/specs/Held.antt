@@ -1,0 +1,45 @@
+-- What a router and its tables hold, in the terms of the rules. Assumes nothing.
+use mathlib.Core.Path.{_≡_}
+use mathlib.Core.Bool.{Bool, false}
+use mathlib.Core.List.{List, _++_}
+use Prim.Native.Nat.{ℕ, _<_}
+use lib.ListN.{getD, replicate, take}
+use Rattle.std.specs.Of.Vec.{vec-items, vec-len}
+use Rattle.std.specs.declared.option.Option.{Option}
+use Rattle.std.specs.declared.option.Option.the-variants.{None, Some}
+use Rattle.relations.specs.Sound.{networks, relation}
+use Rattle.relations.specs.declared.sound.Relations.{Relations}
+use Rattle.selection.specs.Paths.{row}
+use Rattle.advertisement.specs.Audiences.{in-audience}
+use Rattle.advertisement.specs.declared.audience.Audience.{Audience}
+use Rattle.advertisement.specs.declared.update.Announcement.{Announcement}
+use Rattle.advertisement.specs.declared.update.Update.{Update as Message}
+use Rattle.advertisement.specs.declared.update.Update.the-variants.{Announce, Withdraw}
+use Rattle.links.specs.declared.router.Router.{Router}
+use Rattle.links.specs.declared.tables.Tables.{Tables}
+use Rattle.links.specs.declared.fault.Fault.{Fault}
+use Rattle.links.specs.World.{World}
+use Rattle.links.specs.Local.{Update, Local, sends}
+use Rattle.links.specs.Hearing.{hearing-fault, only, replaced}
+
+-- the networks and the homes of the blocks
+abbrev pub world : Relations → Tables → World
+world r t = record { n = networks r; rel = relation r; blocks = vec-len (t .homes); home = λ b. getD (vec-items (t .homes)) b 0 }
+
+abbrev pub links-up : Router → ℕ → Bool
+links-up r k = getD (r .up) k false
+
+abbrev pub held : Router → Tables → Local
+held r t = record { up = links-up r; received = row (t .received); advertised = row (t .advertised) }
+
+-- the path of a length that may be above the 64 networks that there is room for: zeros stand for those that are not there
+abbrev pub padded : List ℕ → ℕ → List ℕ
+padded networks length = take length (networks ++ replicate length 0)
+
+abbrev pub announcement : Announcement → Update
+announcement a = record { block = a .block; says = Some (padded (a .networks) (a .length)) }
+
+-- what an update by value says
+abbrev pub news : Message → Update
+news (Announce a) = announcement a
+news (Withdraw block) = record { block = block; says = None }

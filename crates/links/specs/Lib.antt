@@ -1,0 +1,10 @@
+pub mod World
+pub mod Paths
+pub mod Local
+pub mod Hearing
+pub mod Stable
+pub mod Packets
+pub mod Run
+pub mod Promise
+pub mod Held
+pub mod Answers

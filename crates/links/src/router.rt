@@ -1,0 +1,10 @@
+// A router: one network's number, and which of its links are up.
+mod hearing;
+mod methods;
+mod turning;
+
+#[derive(Clone, Copy)]
+pub struct Router {
+    number: u8,
+    up: [bool; 64],
+}

@@ -1,0 +1,38 @@
+// Making a router, and telling anew.
+ghost use mathlib.Core.Path.{_≡_};
+ghost use mathlib.Core.Bool.{false};
+ghost use Prim.Native.Nat.{ℕ, _<_};
+ghost use Rattle.std.specs.Of.Vec.{vec-items, vec-len};
+ghost use Rattle.advertisement.specs.Audiences.{in-audience};
+ghost use Rattle.links.specs.Held.{held, links-up, world};
+ghost use Rattle.links.specs.Hearing.{only};
+ghost use Rattle.links.specs.Local.{retold, sends};
+use crate::router::Router;
+use crate::tables::Tables;
+use advertisement::Audience;
+use advertisement::advertise;
+use relations::Relations;
+use selection::select;
+
+impl Router {
+    // The router of a network, with every link down.
+    pub fn new(number: u8) -> Router
+        ensures number { λ r. ⌜ r .number ≡ number ⌝ }
+        ensures down { λ r. ⌜ ((k : ℕ) → links-up r k ≡ false) ⌝ }
+    {
+        Router { number, up: [false; 64] }
+    }
+
+    // Selects anew for a block and tells: the answer names the neighbours to whom what now stands in the table goes.
+    pub(crate) fn retell(self, relations: &Relations, tables: &mut Tables, block: u16) -> Audience
+        requires { ⌜ block < vec-len (now tables .homes) ⌝ }
+        ensures homes { λ _. ⌜ now (tables .exit) .homes ≡ now (tables .entry) .homes ⌝ }
+        ensures audiences { λ _. ⌜ now (tables .exit) .audiences ≡ now (tables .entry) .audiences ⌝ }
+        ensures held { λ _. ⌜ held self (now (tables .exit)) ≡ retold (world (now (relations .entry)) (now (tables .entry))) (self .number) (only block) (held self (now (tables .entry))) ⌝ }
+        ensures whom { λ r. ⌜ ((k : ℕ) → in-audience r k ≡ sends (world (now (relations .entry)) (now (tables .entry))) (self .number) (only block) (held self (now (tables .entry))) block k) ⌝ }
+    {
+        let home = tables.homes[block as usize];
+        let route = select(relations, &self.up, &tables.received, self.number, block, home);
+        advertise(relations, &self.up, &mut tables.advertised, self.number, block, route)
+    }
+}
