@@ -80,6 +80,7 @@ module _ (w : World) (i : ℕ) (s : Local) (j block : ℕ) (p : List ℕ) where
         where
           no-fault : (f : Fault) → teller-has w i s j block f ≡ false
           no-fault = none-has (teller-has w i s j block) e
+
           each : (f : Fault) → way-has (w .rel) i j (w .home block) p f ≡ hearing-has w i s j heard f
           each BadLength = ap (λ b. b || false || false) (sym long)
           each NoSuchNetwork = (λ x. not (sym there x) || false || sym (no-fault NoSuchNetwork) x)

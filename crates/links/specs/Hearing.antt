@@ -91,10 +91,10 @@ hearing-fault w i s j u = told (hearing-has w i s j u)
 -- what was received from j is replaced
 abbrev pub replaced : ℕ → Update → Local → Local
 replaced j u s = record {
-    up = s .up;
-    received = at (u .block) (at j (u .says) (s .received (u .block))) (s .received);
-    advertised = s .advertised;
-  }
+  up = s .up;
+  received = at (u .block) (at j (u .says) (s .received (u .block))) (s .received);
+  advertised = s .advertised;
+}
 
 -- the block of the update alone is told anew
 abbrev pub only : ℕ → ℕ → Bool
@@ -131,10 +131,10 @@ turning-fault w i j = told (turning-has w i j)
 -- what went over the link to j is forgotten for all blocks, and the link is up or not
 abbrev pub forgotten : ℕ → Bool → Local → Local
 forgotten j b s = record {
-    up = at j b (s .up);
-    received = λ c. at j None (s .received c);
-    advertised = λ c. at j None (s .advertised c);
-  }
+  up = at j b (s .up);
+  received = λ c. at j None (s .received c);
+  advertised = λ c. at j None (s .advertised c);
+}
 
 -- every block is told anew
 abbrev pub every : ℕ → Bool

@@ -8,3 +8,4 @@ pub mod Run
 pub mod Promise
 pub mod Held
 pub mod Answers
+pub mod Made

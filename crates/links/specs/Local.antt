@@ -44,10 +44,10 @@ due w these s b k = these b && ltb b (w .blocks) && ltb k (w .n) && s .up k
 -- network i selects anew for these blocks and tells: what it then has advertised
 abbrev pub retold : World → ℕ → (ℕ → Bool) → Local → Local
 retold w i these s = record {
-    up = s .up;
-    received = s .received;
-    advertised = λ b k. cond (due w these s b k) (tells-now w i s b k) (s .advertised b k);
-  }
+  up = s .up;
+  received = s .received;
+  advertised = λ b k. cond (due w these s b k) (tells-now w i s b k) (s .advertised b k);
+}
 
 -- an update of block b goes to neighbour k: what is told is something else than what was told last
 abbrev pub sends : World → ℕ → (ℕ → Bool) → Local → ℕ → ℕ → Bool

@@ -45,9 +45,9 @@ updates us = map update us
 -- network j hears an update from i
 abbrev pub heard : World → ℕ → ℕ → Update → List Item → State → State
 heard w i j u rest s = record {
-    locals = at j (after-hearing w j i u (s .locals j)) (s .locals);
-    flight = appended j (λ k. updates (sent-on-hearing w j i u (s .locals j) k)) (queued i j rest (s .flight));
-  }
+  locals = at j (after-hearing w j i u (s .locals j)) (s .locals);
+  flight = appended j (λ k. updates (sent-on-hearing w j i u (s .locals j) k)) (queued i j rest (s .flight));
+}
 
 -- a packet that is handed on goes to one neighbour
 abbrev pub onward : Passed → ℕ → List Item
@@ -58,9 +58,9 @@ onward (handed j p) k = cond (eqb k j) (packet p ∷ []) []
 -- network j gets a packet from i
 abbrev pub carried : World → (ℕ → Option ℕ) → ℕ → ℕ → Packet → List Item → State → State
 carried w at′ i j p rest s = record {
-    locals = s .locals;
-    flight = appended j (onward (passed w at′ j (s .locals j) p)) (queued i j rest (s .flight));
-  }
+  locals = s .locals;
+  flight = appended j (onward (passed w at′ j (s .locals j) p)) (queued i j rest (s .flight));
+}
 
 -- network j takes the oldest item in flight from i
 abbrev pub taken : World → (ℕ → Option ℕ) → ℕ → ℕ → Item → List Item → State → State
@@ -70,16 +70,16 @@ taken w at′ i j (packet p) rest s = carried w at′ i j p rest s
 -- a link turns: what is in flight over it is lost, and both ends make their step
 abbrev pub turned : World → ℕ → ℕ → Bool → State → State
 turned w i j b s = record {
-    locals = at i (after-turning w i j b (s .locals i)) (at j (after-turning w j i b (s .locals j)) (s .locals));
-    flight = appended j (λ k. updates (sent-on-turning w j i b (s .locals j) k)) (appended i (λ k. updates (sent-on-turning w i j b (s .locals i) k)) (queued i j [] (queued j i [] (s .flight))));
-  }
+  locals = at i (after-turning w i j b (s .locals i)) (at j (after-turning w j i b (s .locals j)) (s .locals));
+  flight = appended j (λ k. updates (sent-on-turning w j i b (s .locals j) k)) (appended i (λ k. updates (sent-on-turning w i j b (s .locals i) k)) (queued i j [] (queued j i [] (s .flight))));
+}
 
 -- the people of network i send a packet, with 255 hops left
 abbrev pub posted : World → (ℕ → Option ℕ) → ℕ → ℕ → State → State
 posted w at′ i address s = record {
-    locals = s .locals;
-    flight = appended i (onward (passed w at′ i (s .locals i) (record { address = address; hops = 255 }))) (s .flight);
-  }
+  locals = s .locals;
+  flight = appended i (onward (passed w at′ i (s .locals i) (record { address = address; hops = 255 }))) (s .flight);
+}
 
 -- one item is heard
 pub data Move (w : World) (at′ : ℕ → Option ℕ) : State → State → Type 0 where

@@ -5,5 +5,9 @@ mod router;
 mod tables;
 
 pub use fault::Fault;
+pub use fault::FaultDebug;
+pub use fault::FaultPartialEq;
+pub use fault::Heard;
+pub use fault::Turned;
 pub use router::Router;
 pub use tables::Tables;

@@ -6,6 +6,8 @@ mod cycles;
 #[cfg(test)]
 mod files;
 #[cfg(test)]
+mod routing;
+#[cfg(test)]
 mod tables;
 #[cfg(test)]
 mod telling;

@@ -46,7 +46,13 @@ fn way_fault(relations: &Relations, me: u8, from: u8, home: u8, path: &[u8]) -> 
 
 impl Router {
     // What is wrong with the teller of an update of a block: it is not there, not related, or its link is down.
-    fn teller_fault(self, relations: &Relations, tables: &Tables, from: u8, block: u16) -> Option<Fault>
+    fn teller_fault(
+        self,
+        relations: &Relations,
+        tables: &Tables,
+        from: u8,
+        block: u16,
+    ) -> Option<Fault>
         ensures { λ r. ⌜ r ≡ told (teller-has (world (now (relations .entry)) (now (tables .entry))) (self .number) (held self (now (tables .entry))) from block) ⌝ }
     {
         if from >= relations.networks() {
@@ -65,7 +71,13 @@ impl Router {
     }
 
     // What is wrong with an announcement: its path, its teller, or the way of the path.
-    fn announcement_fault(self, relations: &Relations, tables: &Tables, from: u8, announced: &Announcement) -> Option<Fault>
+    fn announcement_fault(
+        self,
+        relations: &Relations,
+        tables: &Tables,
+        from: u8,
+        announced: &Announcement,
+    ) -> Option<Fault>
         ensures { λ r. ⌜ r ≡ hearing-fault (world (now (relations .entry)) (now (tables .entry))) (self .number) (held self (now (tables .entry))) from (announcement (now (announced .entry))) ⌝ }
     {
         let Some(path) = announced.path() else {
@@ -84,17 +96,34 @@ impl Router {
     }
 
     // What is wrong with an update from a neighbour: of its faults the one with the lowest number.
-    fn fault(self, relations: &Relations, tables: &Tables, from: u8, update: &Update) -> Option<Fault>
+    fn fault(
+        self,
+        relations: &Relations,
+        tables: &Tables,
+        from: u8,
+        update: &Update,
+    ) -> Option<Fault>
         ensures { λ r. ⌜ r ≡ hearing-fault (world (now (relations .entry)) (now (tables .entry))) (self .number) (held self (now (tables .entry))) from (news (now (update .entry))) ⌝ }
     {
         match update {
-            Update::Announce(announced) => self.announcement_fault(relations, tables, from, announced),
+            Update::Announce(announced) => self.announcement_fault(
+                relations,
+                tables,
+                from,
+                announced,
+            ),
             Update::Withdraw { block } => self.teller_fault(relations, tables, from, *block),
         }
     }
 
     // Writes the path of an announcement that is not refused over what was received from its teller.
-    fn receive_path(self, relations: &Relations, tables: &mut Tables, from: u8, announced: &Announcement)
+    fn receive_path(
+        self,
+        relations: &Relations,
+        tables: &mut Tables,
+        from: u8,
+        announced: &Announcement,
+    )
         requires { ⌜ hearing-fault (world (now relations) (now tables)) (self .number) (held self (now tables)) from (announcement (now announced)) ≡ None ⌝ }
         ensures homes { λ _. ⌜ now (tables .exit) .homes ≡ now (tables .entry) .homes ⌝ }
         ensures audiences { λ _. ⌜ now (tables .exit) .audiences ≡ now (tables .entry) .audiences ⌝ }
@@ -119,7 +148,13 @@ impl Router {
     }
 
     // Hears an update from a neighbour: refuses it, or takes it, selects anew for its block and tells.
-    pub fn hear(self, relations: &Relations, tables: &mut Tables, from: u8, update: Update) -> (Router, Heard)
+    pub fn hear(
+        self,
+        relations: &Relations,
+        tables: &mut Tables,
+        from: u8,
+        update: Update,
+    ) -> (Router, Heard)
         ensures router { λ r. ⌜ r .0 ≡ self ⌝ }
         ensures homes { λ _. ⌜ now (tables .exit) .homes ≡ now (tables .entry) .homes ⌝ }
         ensures audiences { λ _. ⌜ now (tables .exit) .audiences ≡ now (tables .entry) .audiences ⌝ }

@@ -1,17 +1,20 @@
 // Making a router, and telling anew.
 ghost use mathlib.Core.Path.{_≡_};
-ghost use mathlib.Core.Bool.{false};
+ghost use mathlib.Core.Bool.{cond, false};
 ghost use Prim.Native.Nat.{ℕ, _<_};
-ghost use Rattle.std.specs.Of.Vec.{vec-items, vec-len};
+ghost use Rattle.std.specs.Of.Vec.{vec-len};
+ghost use lib.Dec.{ltb};
+ghost use Rattle.selection.specs.Choosing.{meaning, nothing};
 ghost use Rattle.advertisement.specs.Audiences.{in-audience};
 ghost use Rattle.links.specs.Held.{held, links-up, world};
 ghost use Rattle.links.specs.Hearing.{only};
-ghost use Rattle.links.specs.Local.{retold, sends};
+ghost use Rattle.links.specs.Local.{choice, retold, sends};
 use crate::router::Router;
 use crate::tables::Tables;
 use advertisement::Audience;
 use advertisement::advertise;
 use relations::Relations;
+use selection::Route;
 use selection::select;
 
 impl Router {
@@ -20,7 +23,27 @@ impl Router {
         ensures number { λ r. ⌜ r .number ≡ number ⌝ }
         ensures down { λ r. ⌜ ((k : ℕ) → links-up r k ≡ false) ⌝ }
     {
-        Router { number, up: [false; 64] }
+        Router {
+            number,
+            up: [false; 64],
+        }
+    }
+
+    // What it goes by for a block; nothing where there is no such block.
+    pub fn route<'a>(self, relations: &Relations, tables: &'a Tables, block: u16) -> Route<'a>
+        ensures { λ r. ⌜ meaning r ≡ cond (ltb block (vec-len (now (tables .entry) .homes))) (choice (world (now (relations .entry)) (now (tables .entry))) (self .number) (held self (now (tables .entry))) block) nothing ⌝ }
+    {
+        let Some(home) = tables.home(block) else {
+            return Route::Nothing;
+        };
+        select(
+            relations,
+            &self.up,
+            &tables.received,
+            self.number,
+            block,
+            home,
+        )
     }
 
     // Selects anew for a block and tells: the answer names the neighbours to whom what now stands in the table goes.
@@ -32,7 +55,21 @@ impl Router {
         ensures whom { λ r. ⌜ ((k : ℕ) → in-audience r k ≡ sends (world (now (relations .entry)) (now (tables .entry))) (self .number) (only block) (held self (now (tables .entry))) block k) ⌝ }
     {
         let home = tables.homes[block as usize];
-        let route = select(relations, &self.up, &tables.received, self.number, block, home);
-        advertise(relations, &self.up, &mut tables.advertised, self.number, block, route)
+        let route = select(
+            relations,
+            &self.up,
+            &tables.received,
+            self.number,
+            block,
+            home,
+        );
+        advertise(
+            relations,
+            &self.up,
+            &mut tables.advertised,
+            self.number,
+            block,
+            route,
+        )
     }
 }

@@ -6,6 +6,7 @@ ghost use lib.ListN.{getD};
 ghost use Rattle.std.specs.Of.Vec.{vec-items, vec-len};
 ghost use Rattle.std.specs.declared.option.Option.the-variants.{None};
 ghost use Rattle.selection.specs.Paths.{row};
+ghost use Rattle.selection.specs.Rows.{with-row};
 ghost use Rattle.links.specs.Answers.{IfKept, TurnAnswered, ToldAll};
 ghost use Rattle.links.specs.Held.{held, links-up, world};
 ghost use Rattle.links.specs.Hearing.{after-turning, every};
@@ -26,7 +27,10 @@ impl Router {
     {
         let mut links = self.up;
         links[other as usize] = up;
-        Router { number: self.number, up: links }
+        Router {
+            number: self.number,
+            up: links,
+        }
     }
 
     // Selects anew for every block and tells, block by block.
@@ -43,7 +47,13 @@ impl Router {
 
     // A link of its own turns, or is turned to what it is already: what went over it is forgotten, and every block told
     // anew.
-    pub fn turn(self, relations: &Relations, tables: &mut Tables, other: u8, up: bool) -> (Router, Turned)
+    pub fn turn(
+        self,
+        relations: &Relations,
+        tables: &mut Tables,
+        other: u8,
+        up: bool,
+    ) -> (Router, Turned)
         ensures number { λ r. ⌜ r .0 .number ≡ self .number ⌝ }
         ensures homes { λ _. ⌜ now (tables .exit) .homes ≡ now (tables .entry) .homes ⌝ }
         ensures held { λ r. ⌜ held (r .0) (now (tables .exit)) ≡ after-turning (world (now (relations .entry)) (now (tables .entry))) (self .number) other up (held self (now (tables .entry))) ⌝ }
@@ -63,6 +73,16 @@ impl Router {
     }
 }
 
+// Forgets for one block what was received and advertised over the link to a neighbour.
+fn forget_block(tables: &mut Tables, block: u16, other: u8)
+    ensures homes { λ _. ⌜ now (tables .exit) .homes ≡ now (tables .entry) .homes ⌝ }
+    ensures received { λ _. ⌜ ((b k : ℕ) → row (now (tables .exit) .received) b k ≡ with-row (row (now (tables .entry) .received)) block other None b k) ⌝ }
+    ensures advertised { λ _. ⌜ ((b k : ℕ) → row (now (tables .exit) .advertised) b k ≡ with-row (row (now (tables .entry) .advertised)) block other None b k) ⌝ }
+{
+    tables.received.clear(block, other);
+    tables.advertised.clear(block, other);
+}
+
 // Forgets for all blocks what was received and advertised over the link to a neighbour.
 fn forget(tables: &mut Tables, other: u8)
     ensures homes { λ _. ⌜ now (tables .exit) .homes ≡ now (tables .entry) .homes ⌝ }
@@ -70,7 +90,6 @@ fn forget(tables: &mut Tables, other: u8)
     ensures advertised { λ _. ⌜ ((b k : ℕ) → row (now (tables .exit) .advertised) b k ≡ at other None (row (now (tables .entry) .advertised) b) k) ⌝ }
 {
     for block in 0..tables.homes.len() as u16 {
-        tables.received.clear(block, other);
-        tables.advertised.clear(block, other);
+        forget_block(tables, block, other);
     }
 }
