@@ -3,3 +3,4 @@ mod Retelling
 mod Faults
 mod Receiving
 mod Turning
+mod Holding

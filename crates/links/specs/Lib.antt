@@ -9,3 +9,4 @@ pub mod Promise
 pub mod Held
 pub mod Answers
 pub mod Made
+pub mod Laws

@@ -89,7 +89,8 @@ fn forget(tables: &mut Tables, other: u8)
     ensures received { λ _. ⌜ ((b k : ℕ) → row (now (tables .exit) .received) b k ≡ at other None (row (now (tables .entry) .received) b) k) ⌝ }
     ensures advertised { λ _. ⌜ ((b k : ℕ) → row (now (tables .exit) .advertised) b k ≡ at other None (row (now (tables .entry) .advertised) b) k) ⌝ }
 {
-    for block in 0..tables.homes.len() as u16 {
+    let blocks = tables.homes.len() as u16;
+    for block in 0..blocks {
         forget_block(tables, block, other);
     }
 }
