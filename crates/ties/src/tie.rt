@@ -36,7 +36,7 @@ pub struct Tie {
 
 impl Head {
     // The head, where the caller allows `most` networks.
-    pub fn read(reader: &mut Reader, most: u8) -> Result<Head, Cause>
+    pub(crate) fn read(reader: &mut Reader, most: u8) -> Result<Head, Cause>
         requires { ⌜ place (now reader) ≡ 0 ⌝ }
         ensures source { λ _. ⌜ input (now (reader .exit)) ≡ input (now (reader .entry)) ⌝ }
         ensures cases { λ r. ⌜ Cases r (λ h. (told (head-has most (input (now (reader .entry)))) ≡ None) × (h .networks ≡ networks-in (input (now (reader .entry)))) × (h .ties ≡ ties-in (input (now (reader .entry)))) × (place (now (reader .exit)) ≡ 4)) (λ c. told (head-has most (input (now (reader .entry)))) ≡ Some c) ⌝ }
@@ -65,7 +65,11 @@ impl Head {
 
 impl Tie {
     // The next tie, after those that `matrix` has, of which `last` was the last.
-    pub fn read(reader: &mut Reader, matrix: &Matrix, last: Option<Tie>) -> Result<Tie, Cause>
+    pub(crate) fn read(
+        reader: &mut Reader,
+        matrix: &Matrix,
+        last: Option<Tie>,
+    ) -> Result<Tie, Cause>
         ensures source { λ _. ⌜ input (now (reader .exit)) ≡ input (now (reader .entry)) ⌝ }
         ensures cases { λ r. ⌜ Cases r (λ t. (tie-told (input (now (reader .entry))) (place (now (reader .entry))) (now (matrix .entry)) last ≡ None) × (t .first ≡ getD (input (now (reader .entry))) (place (now (reader .entry))) 0) × (t .second ≡ getD (input (now (reader .entry))) (place (now (reader .entry)) + 1) 0) × (t .relation ≡ meant (getD (input (now (reader .entry))) (place (now (reader .entry)) + 2) 0)) × (place (now (reader .exit)) ≡ place (now (reader .entry)) + 3)) (λ c. tie-told (input (now (reader .entry))) (place (now (reader .entry))) (now (matrix .entry)) last ≡ Some c) ⌝ }
     {
