@@ -94,7 +94,7 @@ module _ (w : World) (i : ℕ) (s : Local) (j block : ℕ) (p : List ℕ) where
           each NoLink = refl
 
 -- a path by value: as many networks as its length says, and those of its array where there is room
-length-padded : (networks : List ℕ) (k : ℕ) → length (padded networks k) ≡ k
+pub length-padded : (networks : List ℕ) (k : ℕ) → length (padded networks k) ≡ k
 length-padded networks k = length-take-le k _ (omega (arith, length-append networks (replicate k 0), length-replicate {A = ℕ} k 0))
 
 padded-is : (networks : List ℕ) (k : ℕ) → length networks ≡ 64 → k ≤ 64 → padded networks k ≡ take k networks

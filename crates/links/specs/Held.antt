@@ -1,8 +1,8 @@
 -- What a router and its tables hold, in the terms of the rules. Assumes nothing.
-use mathlib.Core.Path.{_≡_}
-use mathlib.Core.Bool.{Bool, false}
+use mathlib.Core.Bool.{Bool, true, false, _&&_}
+use lib.Dec.{leb, ltb}
 use mathlib.Core.List.{List, _++_}
-use Prim.Native.Nat.{ℕ, _<_}
+use Prim.Native.Nat.{ℕ}
 use lib.ListN.{getD, replicate, take}
 use Rattle.std.specs.Of.Vec.{vec-items, vec-len}
 use Rattle.std.specs.declared.option.Option.{Option}
@@ -32,6 +32,10 @@ links-up r k = getD (r .up) k false
 abbrev pub held : Router → Tables → Local
 held r t = record { up = links-up r; received = row (t .received); advertised = row (t .advertised) }
 
+-- what a router holds at one moment, with what it had advertised at an earlier one
+abbrev pub then-held : Router → Tables → Tables → Local
+then-held r t earlier = record { up = links-up r; received = row (t .received); advertised = row (earlier .advertised) }
+
 -- the path of a length that may be above the 64 networks that there is room for: zeros stand for those that are not there
 abbrev pub padded : List ℕ → ℕ → List ℕ
 padded networks length = take length (networks ++ replicate length 0)
@@ -43,3 +47,8 @@ announcement a = record { block = a .block; says = Some (padded (a .networks) (a
 abbrev pub news : Message → Update
 news (Announce a) = announcement a
 news (Withdraw block) = record { block = block; says = None }
+
+-- there is a place for what an update from a neighbour says, in a table of so many blocks
+abbrev pub fits : ℕ → ℕ → Message → Bool
+fits blocks from (Announce a) = ltb (a .block) blocks && ltb from 64 && ltb 0 (a .length) && leb (a .length) 64
+fits blocks from (Withdraw block) = true

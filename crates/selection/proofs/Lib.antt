@@ -3,4 +3,5 @@ mod Bytes
 mod Cells
 pub mod Chosen
 pub mod Lengths
+mod Passing
 pub mod Ranks

@@ -34,10 +34,12 @@ fn is_related(relation: Relation) -> bool
 pub fn passes(path: &[u8], me: u8) -> bool
     ensures { λ r. ⌜ r ≡ passes-by me (now (path .entry)) ⌝ }
 {
-    for network in path {
+    let mut left = path;
+    while let [network, rest @ ..] = left {
         if *network == me {
             return true;
         }
+        left = rest;
     }
     false
 }

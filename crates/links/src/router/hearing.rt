@@ -1,15 +1,18 @@
 // Hearing an update.
 ghost use mathlib.Core.Path.{_≡_};
-ghost use mathlib.Core.Bool.{_&&_, not};
+ghost use mathlib.Core.Bool.{true};
 ghost use Prim.Native.Nat.{ℕ, _<_};
-ghost use lib.Dec.{leb};
 ghost use Rattle.std.specs.Of.Vec.{vec-len};
 ghost use Rattle.std.specs.declared.option.Option.the-variants.{None, Some};
 ghost use Rattle.relations.specs.Sound.{relation as relation-of};
+ghost use Rattle.selection.specs.Paths.{count, row};
+ghost use Rattle.selection.specs.Rows.{with-row};
+ghost use Rattle.advertisement.specs.Audiences.{in-audience};
+ghost use Rattle.advertisement.specs.declared.update.Update.the-variants.{Announce};
 ghost use Rattle.links.specs.Answers.{Answered, IfRefused};
-ghost use Rattle.links.specs.Held.{announcement, held, news, world};
-ghost use Rattle.links.specs.Hearing.{after-hearing, hearing-fault, replaced, teller-has, told, way-has};
-ghost use Rattle.links.specs.Local.{Update as Saying};
+ghost use Rattle.links.specs.Held.{announcement, fits, held, news, then-held, world};
+ghost use Rattle.links.specs.Hearing.{after-hearing, hearing-fault, only, teller-has, told, way-has};
+ghost use Rattle.links.specs.Local.{retold, sends};
 use crate::fault::Fault;
 use crate::fault::Heard;
 use crate::paths::begins;
@@ -20,9 +23,11 @@ use crate::paths::repeats;
 use crate::router::Router;
 use crate::tables::Tables;
 use advertisement::Announcement;
+use advertisement::Audience;
 use advertisement::Update;
 use relations::Relation;
 use relations::Relations;
+use selection::PathTable;
 use selection::is_up;
 
 // What is wrong with the way of a path for the block of `home` that network `me` hears from `from`.
@@ -116,35 +121,25 @@ impl Router {
         }
     }
 
-    // Writes the path of an announcement that is not refused over what was received from its teller.
-    fn receive_path(
+    // Takes what an update says of its block: writes it over what was received from its teller, selects anew and tells.
+    fn take(
         self,
         relations: &Relations,
         tables: &mut Tables,
+        block: u16,
         from: u8,
-        announced: &Announcement,
-    )
-        requires { ⌜ hearing-fault (world (now relations) (now tables)) (self .number) (held self (now tables)) from (announcement (now announced)) ≡ None ⌝ }
+        update: &Update,
+    ) -> Audience
+        requires there { ⌜ block < vec-len (now tables .homes) ⌝ }
+        requires fits { ⌜ fits (count (now tables .received)) from (now update) ≡ true ⌝ }
         ensures homes { λ _. ⌜ now (tables .exit) .homes ≡ now (tables .entry) .homes ⌝ }
         ensures audiences { λ _. ⌜ now (tables .exit) .audiences ≡ now (tables .entry) .audiences ⌝ }
-        ensures held { λ _. ⌜ held self (now (tables .exit)) ≡ replaced from (announcement (now (announced .entry))) (held self (now (tables .entry))) ⌝ }
+        ensures received { λ _. ⌜ ((b k : ℕ) → row (now (tables .exit) .received) b k ≡ with-row (row (now (tables .entry) .received)) (news (now (update .entry)) .block) from (news (now (update .entry)) .says) b k) ⌝ }
+        ensures held { λ _. ⌜ held self (now (tables .exit)) ≡ retold (world (now (relations .entry)) (now (tables .entry))) (self .number) (only block) (then-held self (now (tables .exit)) (now (tables .entry))) ⌝ }
+        ensures whom { λ r. ⌜ ((k : ℕ) → in-audience r k ≡ sends (world (now (relations .entry)) (now (tables .entry))) (self .number) (only block) (then-held self (now (tables .exit)) (now (tables .entry))) block k) ⌝ }
     {
-        if let Some(path) = announced.path() {
-            tables.received.set(announced.block, from, path);
-        }
-    }
-
-    // Writes what an update says, that is not refused, over what was received from its teller.
-    fn receive(self, relations: &Relations, tables: &mut Tables, from: u8, update: &Update)
-        requires { ⌜ hearing-fault (world (now relations) (now tables)) (self .number) (held self (now tables)) from (news (now update)) ≡ None ⌝ }
-        ensures homes { λ _. ⌜ now (tables .exit) .homes ≡ now (tables .entry) .homes ⌝ }
-        ensures audiences { λ _. ⌜ now (tables .exit) .audiences ≡ now (tables .entry) .audiences ⌝ }
-        ensures held { λ _. ⌜ held self (now (tables .exit)) ≡ replaced from (news (now (update .entry))) (held self (now (tables .entry))) ⌝ }
-    {
-        match update {
-            Update::Announce(announced) => self.receive_path(relations, tables, from, announced),
-            Update::Withdraw { block } => tables.received.clear(*block, from),
-        }
+        receive(&mut tables.received, from, update);
+        self.retell(relations, tables, block)
     }
 
     // Hears an update from a neighbour: refuses it, or takes it, selects anew for its block and tells.
@@ -165,8 +160,30 @@ impl Router {
         if let Some(fault) = self.fault(relations, tables, from, &update) {
             return (self, Heard::Refused(fault));
         }
-        self.receive(relations, tables, from, &update);
-        let audience = self.retell(relations, tables, update.block());
+        let audience = self.take(relations, tables, update.block(), from, &update);
         (self, Heard::Taken(audience))
+    }
+}
+
+// Writes the path of an announcement over what was received from its teller.
+fn receive_path(received: &mut PathTable, from: u8, announced: &Announcement)
+    requires { ⌜ fits (count (now received)) from (Announce (now announced)) ≡ true ⌝ }
+    ensures same { λ _. ⌜ count (now (received .exit)) ≡ count (now (received .entry)) ⌝ }
+    ensures rows { λ _. ⌜ ((b k : ℕ) → row (now (received .exit)) b k ≡ with-row (row (now (received .entry))) (announcement (now (announced .entry)) .block) from (announcement (now (announced .entry)) .says) b k) ⌝ }
+{
+    if let Some(path) = announced.path() {
+        received.set(announced.block, from, path);
+    }
+}
+
+// Writes what an update says over what was received from its teller.
+fn receive(received: &mut PathTable, from: u8, update: &Update)
+    requires { ⌜ fits (count (now received)) from (now update) ≡ true ⌝ }
+    ensures same { λ _. ⌜ count (now (received .exit)) ≡ count (now (received .entry)) ⌝ }
+    ensures rows { λ _. ⌜ ((b k : ℕ) → row (now (received .exit)) b k ≡ with-row (row (now (received .entry))) (news (now (update .entry)) .block) from (news (now (update .entry)) .says) b k) ⌝ }
+{
+    match update {
+        Update::Announce(announced) => receive_path(received, from, announced),
+        Update::Withdraw { block } => received.clear(*block, from),
     }
 }

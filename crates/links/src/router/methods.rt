@@ -4,9 +4,10 @@ ghost use mathlib.Core.Bool.{cond, false};
 ghost use Prim.Native.Nat.{ℕ, _<_};
 ghost use Rattle.std.specs.Of.Vec.{vec-len};
 ghost use lib.Dec.{ltb};
+ghost use lib.ListN.{replicate};
 ghost use Rattle.selection.specs.Choosing.{meaning, nothing};
 ghost use Rattle.advertisement.specs.Audiences.{in-audience};
-ghost use Rattle.links.specs.Held.{held, links-up, world};
+ghost use Rattle.links.specs.Held.{held, links-up, then-held, world};
 ghost use Rattle.links.specs.Hearing.{only};
 ghost use Rattle.links.specs.Local.{choice, retold, sends};
 use crate::router::Router;
@@ -17,6 +18,13 @@ use relations::Relations;
 use selection::Route;
 use selection::select;
 
+// Every link up, or every link down.
+fn links(up: bool) -> [bool; 64]
+    ensures { λ r. ⌜ r ≡ replicate 64 up ⌝ }
+{
+    [up; 64]
+}
+
 impl Router {
     // The router of a network, with every link down.
     pub fn new(number: u8) -> Router
@@ -25,7 +33,7 @@ impl Router {
     {
         Router {
             number,
-            up: [false; 64],
+            up: links(false),
         }
     }
 
@@ -51,8 +59,9 @@ impl Router {
         requires { ⌜ block < vec-len (now tables .homes) ⌝ }
         ensures homes { λ _. ⌜ now (tables .exit) .homes ≡ now (tables .entry) .homes ⌝ }
         ensures audiences { λ _. ⌜ now (tables .exit) .audiences ≡ now (tables .entry) .audiences ⌝ }
-        ensures held { λ _. ⌜ held self (now (tables .exit)) ≡ retold (world (now (relations .entry)) (now (tables .entry))) (self .number) (only block) (held self (now (tables .entry))) ⌝ }
-        ensures whom { λ r. ⌜ ((k : ℕ) → in-audience r k ≡ sends (world (now (relations .entry)) (now (tables .entry))) (self .number) (only block) (held self (now (tables .entry))) block k) ⌝ }
+        ensures received { λ _. ⌜ now (tables .exit) .received ≡ now (tables .entry) .received ⌝ }
+        ensures held { λ _. ⌜ held self (now (tables .exit)) ≡ retold (world (now (relations .entry)) (now (tables .entry))) (self .number) (only block) (then-held self (now (tables .exit)) (now (tables .entry))) ⌝ }
+        ensures whom { λ r. ⌜ ((k : ℕ) → in-audience r k ≡ sends (world (now (relations .entry)) (now (tables .entry))) (self .number) (only block) (then-held self (now (tables .exit)) (now (tables .entry))) block k) ⌝ }
     {
         let home = tables.homes[block as usize];
         let route = select(

@@ -29,6 +29,7 @@ returns c =
     record {
       homes = refl;
       audiences = refl;
+      received = refl;
       held = retold-is (world r t) me block (held (c .args .self) t) said chosen (row (c .advertise .last .advertised)) (λ b k. c .advertise .ensures .rows b k ∙ ap (λ m. cond (eqb b block && ltb b m && ltb k (networks r) && up k) (tells (relation r me) up me k said) (row (t .advertised) b k)) (t .said));
       whom = λ k. sends-is (world r t) me block (held (c .args .self) t) said chosen k _ (c .advertise .ensures .whom k ∙ ap (λ m. ltb block m && ltb k (networks r) && up k && not (same-saying (tells (relation r me) up me k said) (row (t .advertised) block k))) (t .said));
     }
