@@ -20,7 +20,7 @@ use Rattle.links.specs.World.{World}
 use Rattle.links.specs.Local.{Update, Local}
 use Rattle.links.specs.Paths.{below}
 use Rattle.links.specs.Hearing.{faults, first-of, told, hearing-fault, hearing-has, teller-has, networks-have, way-has}
-use Rattle.links.specs.Held.{padded}
+use Rattle.advertisement.specs.Updates.{padded}
 
 -- where nothing is told, there is no fault
 none-of : (has : Fault → Bool) (fs : List Fault) → first-of has fs ≡ None → All (λ f. has f ≡ false) fs

@@ -1,6 +1,6 @@
 mod Scans
 mod Retelling
 mod Faults
-mod Receiving
+pub mod Receiving
 mod Turning
 mod Holding

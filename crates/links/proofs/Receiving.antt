@@ -16,7 +16,8 @@ use Rattle.advertisement.specs.declared.update.Update.the-variants.{Announce, W
 use Rattle.links.specs.declared.tables.Tables.{Tables}
 use Rattle.selection.specs.Paths.{row}
 use Rattle.links.specs.declared.router.Router.{Router}
-use Rattle.links.specs.Held.{fits, held, links-up, news, padded, then-held, world}
+use Rattle.links.specs.Held.{fits, held, links-up, news, then-held, world}
+use Rattle.advertisement.specs.Updates.{padded}
 use Rattle.std.proofs.shelf.Tests.{leb-false, or-parts}
 use Rattle.std.proofs.shelf.Ways.{tells}
 use Rattle.std.specs.declared.option.Option.the-variants.{None, Some}

@@ -12,7 +12,7 @@ use Rattle.links.specs.declared.fault.Fault.{Fault}
 use Rattle.links.specs.declared.fault.Fault.the-variants.{BadLength, NoSuchNetwork, NoSuchBlock, NotRelated, LinkDown, WrongStart, WrongEnd, Repeats, NotPaid, NoLink}
 use Rattle.links.specs.World.{World}
 use Rattle.links.specs.Paths.{begins, ends, repeats, below, valley-free}
-use Rattle.links.specs.Local.{Said, Update, Local, retold, sent, at}
+use Rattle.links.specs.Local.{Said, Update, Local, retold, sent, outbox, at}
 
 -- the number of a fault
 abbrev pub number : Fault → ℕ
@@ -112,6 +112,10 @@ after-hearing w i j u s = unless (hearing-fault w i s j u) s (retold w i (only (
 abbrev pub sent-on-hearing : World → ℕ → ℕ → Update → Local → ℕ → List Update
 sent-on-hearing w i j u s k = unless (hearing-fault w i s j u) [] (sent w i (only (u .block)) (replaced j u s) k)
 
+-- all that it then sends, in its order
+abbrev pub outbox-on-hearing : World → ℕ → ℕ → Update → Local → List (ℕ × Update)
+outbox-on-hearing w i j u s = unless (hearing-fault w i s j u) [] (outbox w i (only (u .block)) (replaced j u s))
+
 -- what is wrong with a turn of the link between networks i and j, at network i
 abbrev pub turning-has : World → ℕ → ℕ → Fault → Bool
 turning-has w i j BadLength = false
@@ -145,3 +149,6 @@ after-turning w i j b s = unless (turning-fault w i j) s (retold w i every (forg
 
 abbrev pub sent-on-turning : World → ℕ → ℕ → Bool → Local → ℕ → List Update
 sent-on-turning w i j b s k = unless (turning-fault w i j) [] (sent w i every (forgotten j b s) k)
+
+abbrev pub outbox-on-turning : World → ℕ → ℕ → Bool → Local → List (ℕ × Update)
+outbox-on-turning w i j b s = unless (turning-fault w i j) [] (outbox w i every (forgotten j b s))

@@ -1,26 +1,20 @@
 -- What a router and its tables hold, in the terms of the rules. Assumes nothing.
 use mathlib.Core.Bool.{Bool, true, false, _&&_}
 use lib.Dec.{leb, ltb}
-use mathlib.Core.List.{List, _++_}
 use Prim.Native.Nat.{ℕ}
-use lib.ListN.{getD, replicate, take}
+use lib.ListN.{getD}
 use Rattle.std.specs.Of.Vec.{vec-items, vec-len}
-use Rattle.std.specs.declared.option.Option.{Option}
-use Rattle.std.specs.declared.option.Option.the-variants.{None, Some}
 use Rattle.relations.specs.Sound.{networks, relation}
 use Rattle.relations.specs.declared.sound.Relations.{Relations}
 use Rattle.selection.specs.Paths.{row}
-use Rattle.advertisement.specs.Audiences.{in-audience}
-use Rattle.advertisement.specs.declared.audience.Audience.{Audience}
+use Rattle.advertisement.specs.Updates.{block-of, said}
 use Rattle.advertisement.specs.declared.update.Announcement.{Announcement}
 use Rattle.advertisement.specs.declared.update.Update.{Update as Message}
 use Rattle.advertisement.specs.declared.update.Update.the-variants.{Announce, Withdraw}
 use Rattle.links.specs.declared.router.Router.{Router}
 use Rattle.links.specs.declared.tables.Tables.{Tables}
-use Rattle.links.specs.declared.fault.Fault.{Fault}
 use Rattle.links.specs.World.{World}
-use Rattle.links.specs.Local.{Update, Local, sends}
-use Rattle.links.specs.Hearing.{hearing-fault, only, replaced}
+use Rattle.links.specs.Local.{Update, Local}
 
 -- the networks and the homes of the blocks
 abbrev pub world : Relations → Tables → World
@@ -36,17 +30,12 @@ held r t = record { up = links-up r; received = row (t .received); advertised = 
 abbrev pub then-held : Router → Tables → Tables → Local
 then-held r t earlier = record { up = links-up r; received = row (t .received); advertised = row (earlier .advertised) }
 
--- the path of a length that may be above the 64 networks that there is room for: zeros stand for those that are not there
-abbrev pub padded : List ℕ → ℕ → List ℕ
-padded networks length = take length (networks ++ replicate length 0)
-
-abbrev pub announcement : Announcement → Update
-announcement a = record { block = a .block; says = Some (padded (a .networks) (a .length)) }
-
 -- what an update by value says
 abbrev pub news : Message → Update
-news (Announce a) = announcement a
-news (Withdraw block) = record { block = block; says = None }
+news u = record { block = block-of u; says = said u }
+
+abbrev pub announcement : Announcement → Update
+announcement a = news (Announce a)
 
 -- there is a place for what an update from a neighbour says, in a table of so many blocks
 abbrev pub fits : ℕ → ℕ → Message → Bool

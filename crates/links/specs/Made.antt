@@ -13,3 +13,10 @@ use Rattle.links.specs.declared.tables.Tables.{Tables}
 abbrev pub Fresh : List ℕ → Option Tables → Type 0
 Fresh homes None = 256 < length homes
 Fresh homes (Some t) = (vec-items (t .homes) ≡ homes) × ((b k : ℕ) → row (t .received) b k ≡ None) × ((b k : ℕ) → row (t .advertised) b k ≡ None)
+
+-- tables that hold the same as others
+pub record Same (t u : Tables) : Type 0 where
+  pub homes : vec-items (u .homes) ≡ vec-items (t .homes)
+  pub received : (b k : ℕ) → row (u .received) b k ≡ row (t .received) b k
+  pub advertised : (b k : ℕ) → row (u .advertised) b k ≡ row (t .advertised) b k
+  pub audiences : vec-items (u .audiences) ≡ vec-items (t .audiences)

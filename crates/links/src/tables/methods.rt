@@ -10,7 +10,7 @@ ghost use Rattle.std.specs.Vec.{made};
 ghost use Rattle.std.specs.declared.option.Option.the-variants.{None, Some};
 ghost use Rattle.selection.specs.Paths.{row};
 ghost use Rattle.advertisement.specs.Updates.{block-of, said};
-ghost use Rattle.links.specs.Made.{Fresh};
+ghost use Rattle.links.specs.Made.{Fresh, Same};
 use crate::tables::Tables;
 use advertisement::Audience;
 use advertisement::Update;
@@ -41,6 +41,29 @@ impl Tables {
             advertised,
             audiences,
         }))
+    }
+
+    // Tables of their own that hold the same.
+    pub fn duplicate(&self, heap: Global) -> Result<Tables, AllocError>
+        ensures { λ r. ⌜ made r (Same (now (self .entry))) ⌝ }
+    {
+        let homes = self.homes.as_slice().to_vec(heap)?;
+        let received = self.received.duplicate(heap)?;
+        let advertised = self.advertised.duplicate(heap)?;
+        let audiences = self.audiences.as_slice().to_vec(heap)?;
+        Ok(Tables {
+            homes,
+            received,
+            advertised,
+            audiences,
+        })
+    }
+
+    // How many blocks there are.
+    pub fn blocks(&self) -> u16
+        ensures { λ r. ⌜ r ≡ vec-len (now (self .entry) .homes) ⌝ }
+    {
+        self.homes.len() as u16
     }
 
     // Who was to be told of a block when a link turned last, if there is such a block.

@@ -40,6 +40,19 @@ impl PathTable {
         })
     }
 
+    // A table of its own that says the same.
+    pub fn duplicate(&self, heap: Global) -> Result<PathTable, AllocError>
+        ensures { λ r. ⌜ made r (λ t. (count t ≡ count (now (self .entry))) × ((b j : ℕ) → row t b j ≡ row (now (self .entry)) b j)) ⌝ }
+    {
+        let lengths = self.lengths.as_slice().to_vec(heap)?;
+        let cells = self.cells.as_slice().to_vec(heap)?;
+        Ok(PathTable {
+            blocks: self.blocks,
+            lengths,
+            cells,
+        })
+    }
+
     // How many blocks there are.
     pub fn blocks(&self) -> u16
         ensures { λ r. ⌜ r ≡ count (now (self .entry)) ⌝ }

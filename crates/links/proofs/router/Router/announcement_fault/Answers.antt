@@ -5,7 +5,8 @@ use lib.Dec.{ltb}
 use lib.ListN.{length}
 use borrow.Author.Needs.{needs}
 use Rattle.relations.specs.Sound.{networks}
-use Rattle.links.specs.Held.{held, world, padded}
+use Rattle.links.specs.Held.{held, world}
+use Rattle.advertisement.specs.Updates.{padded}
 use Rattle.std.specs.declared.option.Option.the-variants.{None, Some}
 use Rattle.links.specs.Hearing.{teller-has, told, way-has}
 use Rattle.links.specs.Paths.{below}

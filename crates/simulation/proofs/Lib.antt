@@ -1,0 +1,4 @@
+mod Gathered
+mod Posted
+mod Mailed
+mod Stepping

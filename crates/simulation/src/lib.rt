@@ -1,0 +1,11 @@
+// All networks in memory: n routers, and what is in flight between them.
+mod cause;
+mod letter;
+mod network;
+mod posting;
+mod simulation;
+
+pub use cause::Cause;
+pub use cause::CauseDebug;
+pub use cause::CausePartialEq;
+pub use simulation::Simulation;

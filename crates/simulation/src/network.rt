@@ -1,0 +1,11 @@
+// One network: its router, and what it holds.
+use links::Router;
+use links::Tables;
+
+mod stepping;
+
+#[derive(Drop)]
+pub struct Network {
+    pub router: Router,
+    pub tables: Tables,
+}
