@@ -1,6 +1,6 @@
 mod Scans
 mod Retelling
-mod Faults
+pub mod Faults
 mod Receiving
-mod Turning
-mod Holding
+pub mod Turning
+pub mod Holding

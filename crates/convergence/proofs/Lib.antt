@@ -1,0 +1,5 @@
+mod Settling
+mod Stretches
+mod Standing
+mod Decided
+mod Routings

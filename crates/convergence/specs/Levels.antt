@@ -1,0 +1,39 @@
+-- Heights of networks, and the levels of channels that they give. Assumes nothing.
+use mathlib.Core.Path.{_≡_}
+use mathlib.Core.Bool.{Bool}
+use mathlib.Core.List.{List}
+use Prim.Native.Nat.{ℕ, _-_, _*_, _<_}
+use Rattle.std.specs.declared.option.Option.{Option}
+use Rattle.relations.specs.declared.relation.Relation.{Relation}
+use Rattle.relations.specs.declared.relation.Relation.the-variants.{Unrelated, Customer, Peer, Provider}
+use Rattle.selection.specs.Choosing.{Choice, Order, choose}
+use Rattle.advertisement.specs.Telling.{tells}
+use Rattle.links.specs.World.{World}
+use Rattle.links.specs.Local.{Said}
+use Rattle.convergence.specs.Channels.{System}
+
+-- a height for each network: below n, and a provider stands above its customers
+pub record Heights (w : World) (height : ℕ → ℕ) : Type 0 where
+  pub within : (i : ℕ) → i < w .n → height i < w .n
+  pub falls : (i j : ℕ) → i < w .n → j < w .n → w .rel i j ≡ Customer → height j < height i
+
+-- of n networks, the level of a channel from one of a height to one that is so related to it: up to a provider it is that
+-- height, down to a customer the higher the lower it stands, and between them to a peer
+abbrev pub level-to : ℕ → ℕ → Relation → ℕ
+level-to n height Unrelated = n
+level-to n height Customer = 2 * n - height
+level-to n height Peer = n
+level-to n height Provider = height
+
+abbrev pub level : World → (ℕ → ℕ) → ℕ → ℕ → ℕ
+level w height i k = level-to (w .n) (height i) (w .rel i k)
+
+-- what the networks select and tell of block b, in any order within a rank
+abbrev pub system : Order → World → (ℕ → ℕ) → ℕ → System Said Choice
+system within w height b = record {
+  n = w .n;
+  most = 2 * w .n;
+  level = level w height;
+  select = λ up i says. choose within (w .rel i) up i (w .home b) says (w .n);
+  tell = λ up i k c. tells (w .rel i) up i k c;
+}

@@ -1,0 +1,6 @@
+// That the telling ends at the one stable routing: the theorems on every run.
+mod laws;
+
+pub use laws::any_order_settles;
+pub use laws::stable_routing_exists;
+pub use laws::stable_routing_is_unique;
