@@ -3,3 +3,11 @@ mod Stretches
 mod Standing
 mod Decided
 mod Routings
+mod Newest
+mod Goodness
+mod Unrefused
+mod Places
+mod Keeping
+mod Steps
+mod Runs
+mod Coherence
