@@ -11,3 +11,4 @@ mod Keeping
 mod Steps
 mod Runs
 mod Coherence
+mod Quiescence

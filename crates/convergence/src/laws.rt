@@ -1,5 +1,5 @@
 // What holds of every run: each function's contract is a theorem, and its result says nothing.
-ghost use Rattle.links.specs.Promise.{AlwaysProper, AnyOrder, Exists, NoneRefused, OnlyOne};
+ghost use Rattle.links.specs.Promise.{AlwaysProper, AnyOrder, Exists, Forgets, NoneRefused, OnlyOne, Settles};
 
 // The stable routing exists: 2n + 1 looks find one in which each network goes by what the others tell.
 pub fn stable_routing_exists() -> u8
@@ -32,6 +32,20 @@ pub fn paths_are_always_proper() -> u8
 // No update of a run is refused, and whatever is in flight can be heard.
 pub fn none_is_refused() -> u8
     ensures { λ _. ⌜ NoneRefused ⌝ }
+{
+    0
+}
+
+// When no update is in flight every network goes by the stable routing, and nothing else is left in any table.
+pub fn quiescence_is_stable() -> u8
+    ensures { λ _. ⌜ Settles ⌝ }
+{
+    0
+}
+
+// Two states of runs in which no update is in flight and the same links are up hold the same, whatever their past.
+pub fn past_is_forgotten() -> u8
+    ensures { λ _. ⌜ Forgets ⌝ }
 {
     0
 }

@@ -3,6 +3,8 @@ mod laws;
 
 pub use laws::any_order_settles;
 pub use laws::none_is_refused;
+pub use laws::past_is_forgotten;
 pub use laws::paths_are_always_proper;
+pub use laws::quiescence_is_stable;
 pub use laws::stable_routing_exists;
 pub use laws::stable_routing_is_unique;
