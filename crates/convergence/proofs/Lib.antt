@@ -12,3 +12,9 @@ mod Steps
 mod Runs
 mod Coherence
 mod Quiescence
+mod Sums
+mod Weighing
+mod Falling
+mod Pigeons
+mod Arrival
+mod Promised

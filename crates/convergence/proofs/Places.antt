@@ -2,7 +2,7 @@
 use mathlib.Core.Path.{_≡_, refl, sym, ap, _∙_, subst}
 use mathlib.Core.Bool.{Bool, true, false, cond, _&&_, _||_}
 use mathlib.Core.List.{List, [], _∷_, _++_}
-use mathlib.Core.Logic.{_⊎_, ⊎-elim}
+use mathlib.Core.Logic.{⊎-elim}
 use Prim.Native.Nat.{ℕ}
 use native.Mathlib.Omega.{arith}
 use lib.Dec.{eqb}
@@ -58,14 +58,22 @@ crosses i j a k = (eqb a i && eqb k j) || (eqb a j && eqb k i)
 pub crosses-back : (i j a k : ℕ) → crosses i j a k ≡ crosses i j k a
 crosses-back i j a k = grind (arith, tells)
 
+-- the test of a place
+pub at-place : (i j a k : ℕ) → a ≡ i → k ≡ j → (eqb a i && eqb k j) ≡ true
+at-place i j a k e f = and-from _ _ (eq-eqb a i e) (eq-eqb k j f)
+
+pub off-place : (i j a k : ℕ) → (a ≡ i → k ≡ j → ⊥) → (eqb a i && eqb k j) ≡ false
+off-place i j a k ne =
+    ⊎-elim
+    (λ e. let p = and-parts (eqb a i) (eqb k j) e in absurd (ne (eqb-true a i (p .0)) (eqb-true k j (p .1))))
+    (λ e. e)
+    (cases-bool (eqb a i && eqb k j))
+
 queued-is : (i j : ℕ) (items : List Item) (flight : ℕ → ℕ → List Item) (a k : ℕ) → queued i j items flight a k ≡ cond (eqb a i && eqb k j) items (flight a k)
 queued-is i j items flight a k =
     queued-cases (λ xs. xs ≡ cond (eqb a i && eqb k j) items (flight a k)) i j items flight a k
-    (λ e f. sym (cond-true _ items (flight a k) (and-from _ _ (eq-eqb a i e) (eq-eqb k j f))))
-    (λ ne. sym (cond-false _ items (flight a k) (apart (cases-bool (eqb a i && eqb k j)) ne)))
-  where
-    apart : ((eqb a i && eqb k j) ≡ true) ⊎ ((eqb a i && eqb k j) ≡ false) → (a ≡ i → k ≡ j → ⊥) → (eqb a i && eqb k j) ≡ false
-    apart t ne = ⊎-elim (λ e. let p = and-parts (eqb a i) (eqb k j) e in absurd (ne (eqb-true a i (p .0)) (eqb-true k j (p .1)))) (λ e. e) t
+    (λ e f. sym (cond-true _ items (flight a k) (at-place i j a k e f)))
+    (λ ne. sym (cond-false _ items (flight a k) (off-place i j a k ne)))
 
 pub emptied : (i j : ℕ) (flight : ℕ → ℕ → List Item) (a k : ℕ) → queued i j [] (queued j i [] flight) a k ≡ cond (crosses i j a k) [] (flight a k)
 emptied i j flight a k =

@@ -114,7 +114,7 @@ packet-emits w find i l p =
     }
 
 -- an update is heard
-replaced-takes : (i : ℕ) (u : Update) (l : Local) → Takes i (update u) l (replaced i u l)
+pub replaced-takes : (i : ℕ) (u : Update) (l : Local) → Takes i (update u) l (replaced i u l)
 replaced-takes i u l =
     record {
       up = λ k. refl;
