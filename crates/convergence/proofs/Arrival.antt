@@ -1,13 +1,12 @@
 -- When no update is in flight, packets arrive. Assumes nothing.
 use mathlib.Core.Path.{_≡_, refl, sym, ap, _∙_, subst}
-use mathlib.Core.Bool.{Bool, true, false, cond, _&&_, _||_}
+use mathlib.Core.Bool.{Bool, true, false, cond}
 use mathlib.Core.List.{List, [], _∷_}
 use Prim.Native.Nat.{ℕ, zero, suc, _+_, _<_, _≤_}
 use native.Mathlib.Omega.{arith}
 use lib.Dec.{eqb, ltb}
 use lib.ListN.{length}
 use Rattle.std.proofs.shelf.Tests.{and-from, cond-false, cond-true, eq-eqb, lt-ltb, ne-eqb, or-from}
-use Rattle.std.specs.declared.option.Option.{Option}
 use Rattle.std.specs.declared.option.Option.the-variants.{None, Some}
 use Rattle.selection.specs.Choosing.{Choice, nothing, local, via, passes, shorter}
 use Rattle.selection.proofs.Chosen.{own-home}
@@ -17,17 +16,14 @@ use Rattle.advertisement.proofs.Told.{begins-with-teller}
 use Rattle.links.specs.World.{World, Sound}
 use Rattle.links.specs.Paths.{below, repeats}
 use Rattle.links.specs.Local.{Said, Local, choice}
-use Rattle.links.specs.Packets.{Packet, Passed, arrived, passed, by-choice, hand, in-block, of-block, Trip, arrives, ending, trip}
+use Rattle.links.specs.Packets.{Packet, arrived, passed, by-choice, hand, of-block, arrives, ending, trip}
 use Rattle.links.specs.Run.{State, links, Reach, Quiescent}
 use Rattle.links.specs.Promise.{Lookup, Arrives, ProperChoice}
-use Rattle.convergence.proofs.Goodness.{choice-proper, chosen-is}
+use Rattle.convergence.proofs.Goodness.{choice-proper, chosen-is, never}
 use Rattle.convergence.proofs.Keeping.{Kept}
 use Rattle.convergence.proofs.Steps.{run-kept}
 use Rattle.convergence.proofs.Quiescence.{advertised-is-told, received-is-advertised}
 use Rattle.convergence.proofs.Pigeons.{pigeons}
-
-never : {X : Type 0} (p : List ℕ) → None ≡ Some p → X
-never p e = absurd (let z : _≡_ {A = ℕ} 0 1 = cc in omega arith)
 
 -- at the home a packet has arrived
 at-home : (w : World) (find : Lookup) (b : ℕ) (i : ℕ) (l : Local) (p : Packet) → find (p .address) ≡ Some b → i ≡ w .home b → passed w find i l p ≡ arrived

@@ -1,22 +1,19 @@
 -- In every run what a network advertised over a link that is up is what it tells now, and over one that is down it is nothing.
 -- Assumes nothing.
 use mathlib.Core.Path.{_≡_, refl, sym, ap, _∙_, subst}
-use mathlib.Core.Bool.{Bool, true, false, cond, _&&_}
-use mathlib.Core.List.{List}
-use mathlib.Core.Logic.{⊎-elim}
+use mathlib.Core.Bool.{Bool, true, false, cond}
 use Prim.Native.Nat.{ℕ, _<_}
-use native.Mathlib.Omega.{arith}
 use lib.Dec.{eqb, ltb}
-use Rattle.std.proofs.shelf.Tests.{and-from, and-left, and-right, both-ways, cases-eq, cond-true, cond-false, eq-eqb, lt-ltb, ne-eqb}
+use Rattle.std.proofs.shelf.Tests.{and-from, and-left, and-right, both-ways, cond-true, cond-false, lt-ltb}
 use Rattle.std.specs.declared.option.Option.{Option}
 use Rattle.std.specs.declared.option.Option.the-variants.{None, Some}
 use Rattle.selection.specs.Choosing.{choose, shorter}
 use Rattle.advertisement.specs.Telling.{tells}
 use Rattle.links.specs.declared.fault.Fault.{Fault}
 use Rattle.links.specs.World.{World}
-use Rattle.links.specs.Local.{Said, Update, Local, at, due, retold, silent, tells-now}
+use Rattle.links.specs.Local.{Update, Local, at, due, retold, tells-now}
 use Rattle.links.specs.Hearing.{after-hearing, after-turning, every, forgotten, hearing-fault, only, replaced, turning-fault, unless}
-use Rattle.links.specs.Run.{Item, update, packet, State, Move, hears, Change, turns, Send, Reach, start, move, change, send}
+use Rattle.links.specs.Run.{update, packet, State, Move, hears, Change, turns, Send, Reach, start, move, change, send}
 use Rattle.links.specs.Run as Run
 use Rattle.links.specs.Promise.{Lookup}
 use Rattle.convergence.proofs.Places.{at-cases, at-other}

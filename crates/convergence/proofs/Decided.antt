@@ -1,24 +1,23 @@
 -- What a network tells depends only on what came over channels of lower level, in any order within a rank. Assumes nothing.
-use mathlib.Core.Path.{_≡_, refl, sym, ap, _∙_, subst}
-use mathlib.Core.Bool.{Bool, true, false, cond, _&&_}
-use mathlib.Core.List.{List}
+use mathlib.Core.Path.{_≡_, refl, sym, ap, _∙_}
+use mathlib.Core.Bool.{Bool, false, cond, _&&_}
 use mathlib.Core.Logic.{⊎-elim}
-use Prim.Native.Nat.{ℕ, zero, suc, _-_, _*_, _<_, _≤_}
+use Prim.Native.Nat.{ℕ, zero, suc, _*_, _<_, _≤_}
 use native.Mathlib.Omega.{arith}
 use lib.Dec.{eqb}
 use Rattle.std.proofs.shelf.Tests.{cases-eq}
-use Rattle.std.specs.declared.option.Option.the-variants.{None, Some}
+use Rattle.std.specs.declared.option.Option.the-variants.{None}
 use Rattle.relations.specs.Between.{opposite}
 use Rattle.relations.specs.declared.relation.Relation.{Relation}
 use Rattle.relations.specs.declared.relation.Relation.the-variants.{Unrelated, Customer, Peer, Provider}
-use Rattle.selection.specs.Choosing.{Choice, nothing, local, via, Order, before, rank, related, heard, candidate, better, best, choose}
+use Rattle.selection.specs.Choosing.{Choice, nothing, local, via, Order, before, rank, related, heard, better, best, choose}
 use Rattle.selection.specs.Laws.{Agreed, NotBelow}
 use Rattle.selection.proofs.Chosen.{at-home, own-home}
 use Rattle.selection.proofs.Ranks.{rank-decides}
-use Rattle.advertisement.specs.Telling.{may-tell, in-front, told, tells}
+use Rattle.advertisement.specs.Telling.{may-tell, in-front, told}
 use Rattle.links.specs.World.{World, Sound}
 use Rattle.links.specs.Local.{Said}
-use Rattle.convergence.specs.Channels.{System, Lawful}
+use Rattle.convergence.specs.Channels.{Lawful}
 use Rattle.convergence.specs.Levels.{Heights, level-to, level, system}
 
 -- the ranks below which a neighbour that is so related may be told

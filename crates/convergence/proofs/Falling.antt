@@ -1,13 +1,12 @@
 -- What is left in flight falls with every move, so the telling ends. Assumes nothing.
-use mathlib.Core.Path.{_≡_, refl, sym, ap, _∙_, subst}
+use mathlib.Core.Path.{_≡_, refl, sym, ap, _∙_}
 use mathlib.Core.Bool.{Bool, true, false, cond, _&&_, not}
-use mathlib.Core.List.{List, [], _∷_}
-use mathlib.Core.Logic.{_⊎_, ⊎-elim}
+use mathlib.Core.List.{List, []}
+use mathlib.Core.Logic.{⊎-elim}
 use Prim.Native.Nat.{ℕ, zero, suc, _+_, _-_, _*_, _^_, _<_, _≤_}
 use native.Mathlib.Omega.{arith}
 use native.Mathlib.Nat.{one-le-pow, pow-le-pow-right, pow-succ'}
 use lib.Dec.{eqb, ltb}
-use Rattle.std.specs.shelf.Lists.{sumBy}
 use Rattle.std.proofs.shelf.Tests.{and-left, and-parts, and-right, cases-bool, cases-lt, cond-both, cond-false, eqb-true, ltb-true, not-from-true}
 use Rattle.std.specs.declared.option.Option.{Option}
 use Rattle.std.specs.declared.option.Option.the-variants.{None, Some}
@@ -15,19 +14,20 @@ use Rattle.selection.specs.Choosing.{Choice, nothing, local, via, shorter}
 use Rattle.advertisement.specs.Sayings.{same-saying}
 use Rattle.advertisement.proofs.Sayings.{same-saying-decides}
 use Rattle.links.specs.World.{World, Sound}
-use Rattle.links.specs.Local.{Said, Update, Local, at, choice, due, sends, sent, tells-now}
-use Rattle.links.specs.Hearing.{hearing-fault, only, replaced, unless}
-use Rattle.links.specs.Packets.{Packet, Passed, arrived, dropped, handed, passed, by-choice, hand, in-block, of-block}
+use Rattle.links.specs.Local.{Update, Local, choice, due, sends, sent, tells-now}
+use Rattle.links.specs.Hearing.{only, replaced, unless}
+use Rattle.links.specs.Packets.{Packet, Passed, arrived, handed, passed, by-choice, hand, of-block}
 use Rattle.links.specs.Run.{Item, update, packet, State, Move, hears, Reach, move, Ends, ends, appended, heard, carried, onward, queued, updates}
 use Rattle.links.specs.Promise.{Lookup, Stops}
-use Rattle.convergence.specs.Levels.{Heights, level, system}
+use Rattle.convergence.specs.Levels.{Heights, level}
 use Rattle.convergence.specs.Measure.{Falls, left, sum, weight}
 use Rattle.convergence.proofs.Standing.{height, height-stands}
 use Rattle.convergence.proofs.Decided.{lawful}
 use Rattle.convergence.proofs.Keeping.{Kept}
-use Rattle.convergence.proofs.Steps.{replaced-takes, run-kept, unrefused}
+use Rattle.convergence.proofs.Delivery.{replaced-takes, unrefused}
+use Rattle.convergence.proofs.Steps.{run-kept}
 use Rattle.convergence.proofs.Coherence.{Coherent, run-coherent}
-use Rattle.convergence.proofs.Sums.{sum-le, sum-same}
+use Rattle.convergence.proofs.Sums.{sum-le}
 use Rattle.convergence.proofs.Weighing.{left-then, onward-weighs, weigh, weigh-gather}
 
 -- an update on each of n channels of higher levels weighs less than one

@@ -1,10 +1,10 @@
 -- What a network that holds only proper paths goes by and tells is proper. Assumes nothing.
-use mathlib.Core.Path.{_≡_, refl, sym, ap, _∙_, subst}
-use mathlib.Core.Bool.{Bool, true, false, cond, _&&_, _||_}
+use mathlib.Core.Path.{_≡_, refl, sym, ap, subst}
+use mathlib.Core.Bool.{Bool, true, false, cond, _&&_}
 use mathlib.Core.List.{List, [], _∷_}
-use Prim.Native.Nat.{ℕ, _<_, _≤_}
+use Prim.Native.Nat.{ℕ, _<_}
 use native.Mathlib.Omega.{arith}
-use lib.Dec.{eqb, ltb}
+use lib.Dec.{ltb}
 use lib.ListN.{length}
 use Rattle.std.proofs.shelf.Tests.{and-from, and-parts, cond-both, eq-eqb, eqb-true, false≢true, lt-ltb, ltb-true, or-from}
 use Rattle.std.specs.declared.option.Option.the-variants.{None, Some}
@@ -15,12 +15,12 @@ use Rattle.selection.specs.Choosing.{Choice, nothing, local, via, heard, passes
 use Rattle.selection.proofs.Chosen.{own-home, usable}
 use Rattle.advertisement.specs.Telling.{may-tell, in-front, told}
 use Rattle.links.specs.World.{World, Sound}
-use Rattle.links.specs.Paths.{Proper, allowed, below, begins, descends, ends, is-provider, repeats, valley-free}
+use Rattle.links.specs.Paths.{Proper, allowed, below, descends, is-provider, repeats}
 use Rattle.links.specs.Local.{Said, Local, choice, tells-now}
 use Rattle.links.specs.Promise.{ProperChoice, ProperSaying}
 use Rattle.links.specs.Laws.{HoldsProper}
 
-never : {X : Type 0} (p : List ℕ) → None ≡ Some p → X
+pub never : {X : Type 0} (p : List ℕ) → None ≡ Some p → X
 never p e = absurd (let z : _≡_ {A = ℕ} 0 1 = cc in omega arith)
 
 kept : (t : Bool) (q p : List ℕ) → cond t None (Some q) ≡ Some p → (t ≡ false) × (q ≡ p)

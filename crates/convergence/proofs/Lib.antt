@@ -8,6 +8,12 @@ mod Goodness
 mod Unrefused
 mod Places
 mod Keeping
+mod Emitting
+mod Taking
+mod Cutting
+mod Sending
+mod Delivery
+mod Flips
 mod Steps
 mod Runs
 mod Coherence

@@ -3,15 +3,14 @@ use mathlib.Core.Path.{_≡_, refl, sym, ap, _∙_, subst}
 use mathlib.Core.Bool.{Bool, true, false, cond, _&&_, not}
 use mathlib.Core.List.{List, [], _∷_, _++_}
 use mathlib.Core.Logic.{⊎-elim}
-use Prim.Native.Nat.{ℕ, zero, suc, _<_, _≤_}
+use Prim.Native.Nat.{ℕ, zero, suc, _<_}
 use native.Mathlib.Omega.{arith}
 use lib.Dec.{eqb, ltb}
 use Rattle.std.specs.shelf.Lists.{All}
 use Rattle.std.proofs.shelf.Elements.{all-append}
 use Rattle.std.proofs.shelf.Lists.{map-append}
-use Rattle.std.proofs.shelf.Tests.{cases-bool, cases-eq, cond-both, cond-true, cond-false, eqb-true, and-parts, and-left, and-right}
+use Rattle.std.proofs.shelf.Tests.{cases-eq, cond-both, cond-false, eqb-true, and-left, and-right}
 use Rattle.std.proofs.shelf.Ways.{tells}
-use Rattle.std.specs.declared.option.Option.the-variants.{None, Some}
 use Rattle.advertisement.specs.Sayings.{same-saying}
 use Rattle.advertisement.proofs.Sayings.{same-saying-decides}
 use Rattle.links.specs.World.{World}
@@ -48,11 +47,11 @@ module _ (t : ℕ → Bool) (x : ℕ → Said) where
   each c = cond (t c) (record { block = c; says = x c } ∷ []) []
 
   newest-each : (b c : ℕ) (d : Said) → newest b (updates (each c)) d ≡ cond (t c) (cond (eqb b c) (x c) d) d
-  newest-each b c d =
-      ⊎-elim
-      (λ e. ap (λ z. newest b (updates (cond z (record { block = c; says = x c } ∷ []) [])) d) e ∙ ap (λ z. cond z (cond (eqb b c) (x c) d) d) (sym e))
-      (λ e. ap (λ z. newest b (updates (cond z (record { block = c; says = x c } ∷ []) [])) d) e ∙ ap (λ z. cond z (cond (eqb b c) (x c) d) d) (sym e))
-      (cases-bool (t c))
+  newest-each b c d = by (t c)
+    where
+      by : (z : Bool) → newest b (updates (cond z (record { block = c; says = x c } ∷ []) [])) d ≡ cond z (cond (eqb b c) (x c) d) d
+      by true = refl
+      by false = refl
 
   newest-gather : (b m : ℕ) (d : Said) → newest b (updates (gather each m)) d ≡ cond (ltb b m && t b) (x b) d
   newest-gather b zero d = grind (arith, tells)

@@ -1,13 +1,13 @@
 -- A path that repeats nothing has no more networks than there are. Assumes nothing.
-use mathlib.Core.Path.{_≡_, refl, sym, ap, _∙_}
-use mathlib.Core.Bool.{Bool, true, false, cond, _&&_, _||_}
+use mathlib.Core.Path.{_≡_, ap, _∙_}
+use mathlib.Core.Bool.{Bool, true, false, cond, _||_}
 use mathlib.Core.List.{List, [], _∷_}
 use mathlib.Core.Logic.{⊎-elim}
-use Prim.Native.Nat.{ℕ, suc, _+_, _*_, _<_, _≤_}
+use Prim.Native.Nat.{ℕ, _+_, _≤_}
 use native.Mathlib.Omega.{arith}
 use lib.Dec.{eqb, ltb}
 use lib.ListN.{length}
-use Rattle.std.proofs.shelf.Tests.{and-parts, cases-eq, cond-both, eq-eqb, ltb-true, ne-eqb, or-parts}
+use Rattle.std.proofs.shelf.Tests.{and-parts, cases-eq, cond-both, ltb-true, or-parts}
 use Rattle.std.proofs.shelf.Ways.{tells}
 use Rattle.selection.specs.Choosing.{passes}
 use Rattle.links.specs.Paths.{below, repeats}

@@ -1,6 +1,5 @@
 -- When no update is in flight every network goes by the stable routing, whatever the past was. Assumes nothing.
-use mathlib.Core.Path.{_≡_, refl, sym, ap, _∙_}
-use mathlib.Core.Bool.{Bool, true, false, cond}
+use mathlib.Core.Path.{_≡_, sym, ap, _∙_}
 use mathlib.Core.Logic.{⊎-elim}
 use Prim.Native.Nat.{ℕ, _<_}
 use Rattle.std.proofs.shelf.Tests.{cases-bool, cond-false}
@@ -8,17 +7,16 @@ use Rattle.std.specs.declared.option.Option.the-variants.{None}
 use Rattle.selection.specs.Choosing.{shorter}
 use Rattle.advertisement.specs.Telling.{told, tells}
 use Rattle.links.specs.World.{World, Sound}
-use Rattle.links.specs.Local.{choice, tells-now}
-use Rattle.links.specs.Stable.{Links, Routing, stable, Stable}
+use Rattle.links.specs.Local.{choice}
+use Rattle.links.specs.Stable.{Routing, stable, Stable}
 use Rattle.links.specs.Run.{State, links, Reach, Quiescent}
 use Rattle.links.specs.Promise.{Lookup, Forgets, Settled, Settles}
 use Rattle.convergence.proofs.Standing.{height, height-stands}
 use Rattle.convergence.proofs.Decided.{lawful}
 use Rattle.convergence.proofs.Routings.{exists, only-one}
 use Rattle.convergence.proofs.Newest.{newest-quiet}
-use Rattle.convergence.proofs.Keeping.{Kept}
 use Rattle.convergence.proofs.Steps.{run-kept}
-use Rattle.convergence.proofs.Coherence.{Coherent, run-coherent}
+use Rattle.convergence.proofs.Coherence.{run-coherent}
 
 module _ (w : World) (find : Lookup) (sound : Sound w) (s : State) (run : Reach w find s) (quiet : Quiescent s) where
   -- what each network goes by
@@ -58,8 +56,7 @@ settles w find sound s run quiet = settled w find sound s run quiet
 pub forgets : Forgets
 forgets w find sound s t run other quiet hush same i j b hi hj hb =
     let a = settled w find sound s run quiet in
-    let c = settled w find sound t other hush in
-    (
+    let c = settled w find sound t other hush in (
       a .received i j b hi hj hb ∙ (λ x. tells (w .rel j) (λ k. same j k x) j i (stable w (λ n k. same n k x) b j)) ∙ sym (c .received i j b hi hj hb),
       a .advertised i j b hi hj hb ∙ (λ x. tells (w .rel i) (λ k. same i k x) i j (stable w (λ n k. same n k x) b i)) ∙ sym (c .advertised i j b hi hj hb),
     )

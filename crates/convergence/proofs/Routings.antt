@@ -1,5 +1,5 @@
 -- The stable routing exists, is the only one, and every order of looking ends at it. Assumes nothing.
-use mathlib.Core.Path.{_≡_, refl, sym, ap, _∙_}
+use mathlib.Core.Path.{_≡_, refl, ap, _∙_}
 use mathlib.Core.Bool.{Bool}
 use mathlib.Core.List.{List, [], _∷_}
 use Prim.Native.Nat.{ℕ, suc, _+_, _*_, _<_}
@@ -17,7 +17,7 @@ use Rattle.convergence.specs.Levels.{system}
 use Rattle.convergence.proofs.Standing.{height, height-stands}
 use Rattle.convergence.proofs.Decided.{lawful}
 use Rattle.convergence.proofs.Settling.{same-choice}
-use Rattle.convergence.proofs.Stretches.{settled}
+use Rattle.convergence.proofs.Stretches.{stretches-settle}
 
 module _ (w : World) (sound : Sound w) (up : Links) (b : ℕ) where
   abbrev ours : System Said Choice
@@ -46,7 +46,7 @@ module _ (w : World) (sound : Sound w) (up : Links) (b : ℕ) where
   in-order : (stretches : List (List (ℕ → Bool))) (a : Routing) → Stable.Fair w stretches → length stretches ≡ 2 * w .n + 1 → (i : ℕ) → i < w .n → after-stretches (look w up b) stretches a i ≡ stable w up b i
   in-order [] a fair long i hi = absurd (omega arith)
   in-order (stretch ∷ later) a fair long i hi =
-      settled ours ours-lawful up (stable w up b) is-stable stretch later 0 a (fair .0) (fair .1) (omega arith) (λ i k hi hk l. absurd (omega arith)) i hi
+      stretches-settle ours ours-lawful up (stable w up b) is-stable stretch later 0 a (fair .0) (fair .1) (omega arith) (λ i k hi hk l. absurd (omega arith)) i hi
 
 pub exists : Exists
 exists w sound up b = is-stable w sound up b

@@ -1,12 +1,12 @@
 -- In every run paths are proper, and no update is refused. Assumes nothing.
-use mathlib.Core.Path.{_≡_, subst}
-use Prim.Native.Nat.{ℕ}
+use mathlib.Core.Path.{subst}
 use Rattle.links.specs.Run.{hears}
 use Rattle.links.specs.Promise.{AlwaysProper, NoneRefused, ProperSaying}
 use Rattle.convergence.proofs.Newest.{newest-proper}
 use Rattle.convergence.proofs.Goodness.{choice-proper}
 use Rattle.convergence.proofs.Keeping.{Kept, flies-up}
-use Rattle.convergence.proofs.Steps.{run-kept, unrefused}
+use Rattle.convergence.proofs.Delivery.{unrefused}
+use Rattle.convergence.proofs.Steps.{run-kept}
 
 pub always-proper : AlwaysProper
 always-proper w find sound s run =

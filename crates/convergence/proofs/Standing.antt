@@ -1,19 +1,19 @@
 -- Sound ties give every network a height. Assumes nothing.
-use mathlib.Core.Path.{_≡_, refl, sym, ap, _∙_}
-use mathlib.Core.Bool.{Bool, true, false, cond, _&&_, not}
+use mathlib.Core.Path.{_≡_, ap, _∙_}
+use mathlib.Core.Bool.{cond, _&&_, not}
 use mathlib.Core.List.{List, [], _∷_}
 use mathlib.Core.Logic.{⊎-elim}
-use Prim.Native.Nat.{ℕ, _<_, _≤_}
+use Prim.Native.Nat.{ℕ, _<_}
 use native.Mathlib.Omega.{arith}
 use lib.Dec.{ltb, eqb}
 use Rattle.std.specs.shelf.Lists.{All}
 use Rattle.std.proofs.shelf.Tests.{cases-eq}
 use Rattle.std.proofs.shelf.Ways.{tells}
 use Rattle.relations.specs.Between.{Between, opposite, Mutual, Apart, Within}
-use Rattle.relations.specs.Cycle.{Chain, Cycle, NoCycle}
+use Rattle.relations.specs.Cycle.{Chain, NoCycle}
 use Rattle.relations.specs.Heights.{Height}
 use Rattle.relations.specs.declared.relation.Relation.{Relation}
-use Rattle.relations.specs.declared.relation.Relation.the-variants.{Unrelated, Customer, Peer, Provider}
+use Rattle.relations.specs.declared.relation.Relation.the-variants.{Unrelated, Customer, Provider}
 use Rattle.relations.proofs.Reach.{heights}
 use Rattle.links.specs.World.{World, Sound}
 use Rattle.convergence.specs.Levels.{Heights}

@@ -1,6 +1,6 @@
 -- Looking in any order settles, if every network looks in each of enough stretches. Assumes nothing.
-use mathlib.Core.Path.{_≡_, refl, sym, ap, _∙_, subst}
-use mathlib.Core.Bool.{Bool, true, cond}
+use mathlib.Core.Path.{_≡_, sym, ap, _∙_, subst}
+use mathlib.Core.Bool.{Bool}
 use mathlib.Core.List.{List, [], _∷_}
 use mathlib.Core.Logic.{⊎-elim}
 use Prim.Native.Nat.{ℕ, suc, _+_, _<_}
@@ -50,7 +50,7 @@ module _ {S C : Type 0} (y : System S C) (lawful : Lawful y) (up : ℕ → ℕ �
       (λ a i hi h. lawful .all (up i) i _ _ hi (λ j hj. h j i hj hi (lawful .low j i hj hi)) ∙ sym (stable i hi))
       stretch a i hi h (fair i hi)
 
-  pub settled : (stretch : List (ℕ → Bool)) (later : List (List (ℕ → Bool))) (m : ℕ) (a : ℕ → C) → ((i : ℕ) → i < y .n → Looks i stretch) → All (λ s. (i : ℕ) → i < y .n → Looks i s) later → m + length later ≡ y .most → Agrees m a → (i : ℕ) → i < y .n → after-stretches (next y up) (stretch ∷ later) a i ≡ e i
-  settled stretch [] m a fair fairs long h i hi = the-last stretch a fair (λ i k hi hk l. h i k hi hk (omega arith)) i hi
-  settled stretch (s ∷ later) m a fair fairs long h i hi =
-      settled s later (suc m) (after-looks (next y up) stretch a) (fairs .0) (fairs .1) (omega arith) (a-stretch m stretch a fair h) i hi
+  pub stretches-settle : (stretch : List (ℕ → Bool)) (later : List (List (ℕ → Bool))) (m : ℕ) (a : ℕ → C) → ((i : ℕ) → i < y .n → Looks i stretch) → All (λ s. (i : ℕ) → i < y .n → Looks i s) later → m + length later ≡ y .most → Agrees m a → (i : ℕ) → i < y .n → after-stretches (next y up) (stretch ∷ later) a i ≡ e i
+  stretches-settle stretch [] m a fair fairs long h i hi = the-last stretch a fair (λ i k hi hk l. h i k hi hk (omega arith)) i hi
+  stretches-settle stretch (s ∷ later) m a fair fairs long h i hi =
+      stretches-settle s later (suc m) (after-looks (next y up) stretch a) (fairs .0) (fairs .1) (omega arith) (a-stretch m stretch a fair h) i hi

@@ -1,10 +1,9 @@
 -- A proper update over a link that is up is not refused. Assumes nothing.
 use mathlib.Core.Path.{_≡_, refl, ap, fun-ext}
-use mathlib.Core.Bool.{true, false, _||_}
+use mathlib.Core.Bool.{true, false}
 use mathlib.Core.List.{List}
 use Prim.Native.Nat.{ℕ, _<_}
 use native.Mathlib.Omega.{arith}
-use lib.Dec.{eqb, ltb}
 use lib.ListN.{length}
 use Rattle.std.proofs.shelf.Tests.{le-ltb, lt-leb, ne-eqb, not-from-true, or-from}
 use Rattle.std.specs.declared.option.Option.the-variants.{None, Some}

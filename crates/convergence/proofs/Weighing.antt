@@ -1,9 +1,9 @@
 -- What a move takes from what is left in flight, and what it adds. Assumes nothing.
-use mathlib.Core.Path.{_≡_, refl, sym, ap, _∙_, subst}
-use mathlib.Core.Bool.{Bool, true, false, cond, _&&_, not}
-use mathlib.Core.List.{List, [], _∷_, _++_}
+use mathlib.Core.Path.{_≡_, refl, sym, ap, _∙_}
+use mathlib.Core.Bool.{Bool, true, false, cond, _&&_}
+use mathlib.Core.List.{List, [], _∷_}
 use mathlib.Core.Logic.{⊎-elim}
-use Prim.Native.Nat.{ℕ, zero, suc, _+_, _*_, _<_, _≤_}
+use Prim.Native.Nat.{ℕ, zero, suc, _+_, _<_, _≤_}
 use native.Mathlib.Omega.{arith}
 use lib.Dec.{eqb, ltb}
 use Rattle.std.specs.shelf.Lists.{sumBy}
@@ -63,11 +63,11 @@ module _ (f : Item → ℕ) (v : ℕ) (weighs : (u : Update) → f (update u) �
   each b = cond (t b) (record { block = b; says = x b } ∷ []) []
 
   weigh-each : (b : ℕ) → sumBy f (updates (each b)) ≡ cond (t b) v 0
-  weigh-each b =
-      ⊎-elim
-      (λ e. ap (λ z. sumBy f (updates (cond z (record { block = b; says = x b } ∷ []) []))) e ∙ (let g = weighs (record { block = b; says = x b }) in omega arith) ∙ sym (cond-true (t b) v 0 e))
-      (λ e. ap (λ z. sumBy f (updates (cond z (record { block = b; says = x b } ∷ []) []))) e ∙ sym (cond-false (t b) v 0 e))
-      (cases-bool (t b))
+  weigh-each b = by (t b)
+    where
+      by : (z : Bool) → sumBy f (updates (cond z (record { block = b; says = x b } ∷ []) [])) ≡ cond z v 0
+      by true = let g = weighs (record { block = b; says = x b }) in omega (arith, g)
+      by false = refl
 
   pub weigh-gather : (m : ℕ) → sumBy f (updates (gather each m)) ≡ cond (ltb c m && t c) v 0
   weigh-gather zero = grind (arith, tells)

@@ -1,9 +1,6 @@
 -- Heights of networks, and the levels of channels that they give. Assumes nothing.
 use mathlib.Core.Path.{_≡_}
-use mathlib.Core.Bool.{Bool}
-use mathlib.Core.List.{List}
 use Prim.Native.Nat.{ℕ, _-_, _*_, _<_}
-use Rattle.std.specs.declared.option.Option.{Option}
 use Rattle.relations.specs.declared.relation.Relation.{Relation}
 use Rattle.relations.specs.declared.relation.Relation.the-variants.{Unrelated, Customer, Peer, Provider}
 use Rattle.selection.specs.Choosing.{Choice, Order, choose}
