@@ -18,7 +18,7 @@ use Rattle.advertisement.specs.Telling.{may-tell, in-front, told}
 use Rattle.links.specs.World.{World, Sound}
 use Rattle.links.specs.Local.{Said}
 use Rattle.convergence.specs.Channels.{Lawful}
-use Rattle.convergence.specs.Levels.{Heights, level-to, level, system}
+use Rattle.convergence.specs.Levels.{Heights, LowerDecides, level-to, level, system}
 
 -- the ranks below which a neighbour that is so related may be told
 abbrev threshold : Relation → ℕ
@@ -116,3 +116,6 @@ module _ (within : Order) (w : World) (sound : Sound w) (height : ℕ → ℕ) (
         law = λ up i k r q hi hk same. ap (λ s. cond (up k) s None) (law up i k r q hi same);
         all = λ up i r q hi same. ap (cond (eqb i (w .home b)) local) (same-best (before within (w .rel i)) _ _ (w .n) (λ j hj. ap (λ s. cond (related (w .rel i j) && up j) (heard i s) None) (same j hj)));
       }
+
+pub lower-decides : LowerDecides
+lower-decides within w height b sound stands = lawful within w sound height stands b

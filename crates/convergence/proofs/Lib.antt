@@ -1,26 +1,26 @@
-mod Settling
-mod Stretches
-mod Standing
-mod Decided
-mod Routings
-mod Newest
-mod Goodness
-mod Unrefused
-mod Places
-mod Keeping
-mod Emitting
-mod Taking
-mod Cutting
-mod Sending
-mod Delivery
-mod Flips
-mod Steps
-mod Runs
-mod Coherence
-mod Quiescence
-mod Sums
-mod Weighing
-mod Falling
-mod Pigeons
-mod Arrival
-mod Promised
+pub mod Settling
+pub mod Stretches
+pub mod Standing
+pub mod Decided
+pub mod Routings
+pub mod Newest
+pub mod Goodness
+pub mod Unrefused
+pub mod Places
+pub mod Keeping
+pub mod Emitting
+pub mod Taking
+pub mod Cutting
+pub mod Sending
+pub mod Delivery
+pub mod Flips
+pub mod Steps
+pub mod Runs
+pub mod Coherence
+pub mod Quiescence
+pub mod Sums
+pub mod Weighing
+pub mod Falling
+pub mod Pigeons
+pub mod Arrival
+pub mod Promised

@@ -16,7 +16,7 @@ use Rattle.relations.specs.declared.relation.Relation.{Relation}
 use Rattle.relations.specs.declared.relation.Relation.the-variants.{Unrelated, Customer, Provider}
 use Rattle.relations.proofs.Reach.{heights}
 use Rattle.links.specs.World.{World, Sound}
-use Rattle.convergence.specs.Levels.{Heights}
+use Rattle.convergence.specs.Levels.{Heights, HeightsExist}
 
 module _ (w : World) (sound : Sound w) where
   -- the ties between two different networks below n
@@ -62,3 +62,6 @@ module _ (w : World) (sound : Sound w) where
   pub height-stands : Heights w height
   unfolding height
   height-stands = record { within = standing .within; falls = height-falls }
+
+pub heights-exist : HeightsExist
+heights-exist w sound = (height w sound, height-stands w sound)

@@ -14,7 +14,8 @@ pub record System (S C : Type 0) : Type 0 where
   pub select : (ℕ → Bool) → ℕ → (ℕ → S) → C
   pub tell : (ℕ → Bool) → ℕ → ℕ → C → S
 
--- all levels are below `most`; what is told depends on channels of lower level alone, and what is selected on those of networks
+-- all levels are below `most`; what is told depends only on what came over channels of lower level, and what is selected only
+-- on what came from networks below n
 pub record Lawful {S C : Type 0} (y : System S C) : Type 0 where
   pub low : (i k : ℕ) → i < y .n → k < y .n → y .level i k < y .most
   pub law : (up : ℕ → Bool) (i k : ℕ) (r q : ℕ → S) → i < y .n → k < y .n → ((j : ℕ) → j < y .n → y .level j i < y .level i k → r j ≡ q j) → y .tell up i k (y .select up i r) ≡ y .tell up i k (y .select up i q)

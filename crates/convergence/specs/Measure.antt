@@ -11,8 +11,8 @@ abbrev pub sum : ℕ → (ℕ → ℕ) → ℕ
 sum zero f = 0
 sum (suc n) f = sum n f + f n
 
--- of n networks, what an item weighs over a channel of a level: an update more than one on every channel of a higher level, a
--- packet as many as the networks that it can still come to
+-- of n networks, what an item weighs over a channel of a level: an update more than n updates of higher levels, and a packet
+-- more than the same packet one hop on
 abbrev pub weight : ℕ → ℕ → Item → ℕ
 weight n level (update u) = (n + 1) ^ (2 * n - level)
 weight n level (packet p) = p .hops + 1

@@ -1,6 +1,22 @@
 // What holds of every run: each function's contract is a theorem, and its result says nothing.
 ghost use Rattle.links.specs.Promise.{AlwaysProper, AnyOrder, Arrives, Exists, Forgets, Main, NoneRefused, OnlyOne, Settles, Stops};
+ghost use Rattle.convergence.specs.Levels.{HeightsExist, LowerDecides};
 ghost use Rattle.convergence.specs.Measure.{Falls};
+
+// Sound ties give every network a height below n, a customer below its provider.
+pub fn heights_of_sound_ties() -> u8
+    ensures { λ _. ⌜ HeightsExist ⌝ }
+{
+    0
+}
+
+// The one law that carries the rest: what a network tells over a channel depends only on what came over channels of
+// lower level, in whatever order paths of one rank are compared.
+pub fn lower_levels_decide() -> u8
+    ensures { λ _. ⌜ LowerDecides ⌝ }
+{
+    0
+}
 
 // The stable routing exists: 2n + 1 looks find one in which each network goes by what the others tell.
 pub fn stable_routing_exists() -> u8
@@ -65,14 +81,16 @@ pub fn past_is_forgotten() -> u8
     0
 }
 
-// When no update is in flight, a packet with enough hops left arrives at its home, after exactly as many steps as its path has networks.
+// When no update is in flight, a packet with enough hops left arrives at its home, after exactly as many steps as its
+// path has networks.
 pub fn packets_arrive() -> u8
     ensures { λ _. ⌜ Arrives ⌝ }
 {
     0
 }
 
-// The whole, of every state of every run: the telling ends, nothing is stuck or refused, it ends at the one stable routing, packets then arrive, and no unpaid path is ever held.
+// The whole, of every state of every run: the telling ends, nothing is stuck or refused, it ends at the one stable
+// routing, packets then arrive, and no unpaid path is ever held.
 pub fn promise() -> u8
     ensures { λ _. ⌜ Main ⌝ }
 {

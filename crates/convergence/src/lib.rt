@@ -2,6 +2,8 @@
 mod laws;
 
 pub use laws::any_order_settles;
+pub use laws::heights_of_sound_ties;
+pub use laws::lower_levels_decide;
 pub use laws::none_is_refused;
 pub use laws::packets_arrive;
 pub use laws::past_is_forgotten;
