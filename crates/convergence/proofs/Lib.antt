@@ -4,6 +4,7 @@ pub mod Standing
 pub mod Decided
 pub mod Routings
 pub mod Newest
+pub mod Dues
 pub mod Goodness
 pub mod Unrefused
 pub mod Places
@@ -20,6 +21,7 @@ pub mod Coherence
 pub mod Quiescence
 pub mod Sums
 pub mod Weighing
+pub mod Hops
 pub mod Falling
 pub mod Pigeons
 pub mod Arrival

@@ -1,17 +1,16 @@
 -- What a network sends as it tells anew, or as it hands a packet on, is proper, goes over links that are up, and says what it
 -- then has advertised. Assumes nothing.
 use mathlib.Core.Path.{_≡_, refl, ap, _∙_}
-use mathlib.Core.Bool.{Bool, true, false, cond, _&&_, not}
+use mathlib.Core.Bool.{Bool, false, cond}
 use mathlib.Core.List.{List, [], _∷_}
 use Prim.Native.Nat.{ℕ, zero, suc, _<_}
-use lib.Dec.{eqb, ltb}
+use lib.Dec.{eqb}
 use Rattle.std.specs.shelf.Lists.{All}
 use Rattle.std.proofs.shelf.Elements.{all-map}
-use Rattle.std.proofs.shelf.Tests.{and-parts, both-ways, cond-both, eqb-true, ltb-true}
+use Rattle.std.proofs.shelf.Tests.{and-parts, both-ways, cond-both, eqb-true}
 use Rattle.std.specs.declared.option.Option.{Option}
 use Rattle.std.specs.declared.option.Option.the-variants.{None, Some}
 use Rattle.selection.specs.Choosing.{Choice, nothing, local, via}
-use Rattle.advertisement.specs.Sayings.{same-saying}
 use Rattle.links.specs.World.{World, Sound}
 use Rattle.links.specs.Local.{Local, choice, due, retold, sends, sent, tells-now}
 use Rattle.links.specs.Packets.{Packet, Passed, arrived, dropped, handed, passed, by-choice, hand, of-block}
@@ -19,6 +18,7 @@ use Rattle.links.specs.Run.{update, packet, NoUpdate, onward, updates}
 use Rattle.links.specs.Promise.{Lookup, ProperItem}
 use Rattle.links.specs.Laws.{HoldsProper}
 use Rattle.convergence.proofs.Newest.{newest, newest-sent, newest-quiet, gather-all, none-sent}
+use Rattle.convergence.proofs.Dues.{due-is}
 use Rattle.convergence.proofs.Goodness.{chosen-is, tells-proper}
 use Rattle.convergence.proofs.Emitting.{Emits}
 
@@ -33,11 +33,8 @@ tells-emits w sound i these l hi held =
       proper = λ k. all-map (ProperItem w k i) update (sent w i these l k) (gather-all (λ u. ProperItem w k i (update u)) _ (w .blocks) (λ c hc. one k c hc));
     }
   where
-    below : (k c : ℕ) → sends w i these l c k ≡ true → k < w .n
-    below k c e = ltb-true k (w .n) (and-parts (these c && ltb c (w .blocks)) (ltb k (w .n)) (and-parts (these c && ltb c (w .blocks) && ltb k (w .n)) (l .up k) (and-parts (due w these l c k) (not (same-saying (tells-now w i l c k) (l .advertised c k))) e .0) .0) .1)
-
     one : (k c : ℕ) → c < w .blocks → All (λ u. ProperItem w k i (update u)) (cond (sends w i these l c k) (record { block = c; says = tells-now w i l c k } ∷ []) [])
-    one k c hc = cond-both (sends w i these l c k) (record { block = c; says = tells-now w i l c k } ∷ []) [] (All (λ u. ProperItem w k i (update u))) (λ e. ((hc, tells-proper w sound i k hi (below k c e) c l held), tt)) (λ _. tt)
+    one k c hc = cond-both (sends w i these l c k) (record { block = c; says = tells-now w i l c k } ∷ []) [] (All (λ u. ProperItem w k i (update u))) (λ e. ((hc, tells-proper w sound i k hi (due-is w these l c k (and-parts (due w these l c k) _ e .0) .there) c l held), tt)) (λ _. tt)
 
 -- a packet goes on over a link that is up
 onward-quiet : (o : Passed) (k : ℕ) → NoUpdate (onward o k)

@@ -3,22 +3,21 @@ use mathlib.Core.Path.{_≡_, refl, sym, ap, _∙_}
 use mathlib.Core.Bool.{Bool, true, false, cond, _&&_}
 use mathlib.Core.List.{List, [], _∷_}
 use mathlib.Core.Logic.{⊎-elim}
-use Prim.Native.Nat.{ℕ, zero, suc, _+_, _<_, _≤_}
+use Prim.Native.Nat.{ℕ, zero, suc, _+_, _<_}
 use native.Mathlib.Omega.{arith}
 use lib.Dec.{eqb, ltb}
 use Rattle.std.specs.shelf.Lists.{sumBy}
 use Rattle.std.proofs.shelf.Lists.{map-append}
 use Rattle.std.proofs.shelf.Sums.{sumBy-append, sumBy-cons}
-use Rattle.std.proofs.shelf.Tests.{cases-bool, cases-eq, cond-both, cond-true, cond-false, eq-eqb, ne-eqb}
+use Rattle.std.proofs.shelf.Tests.{cases-bool, cases-eq, cond-true, cond-false, eq-eqb, ne-eqb}
 use Rattle.std.proofs.shelf.Ways.{tells}
 use Rattle.links.specs.World.{World}
 use Rattle.links.specs.Local.{Said, Update, gather}
-use Rattle.links.specs.Packets.{Packet, Passed, arrived, dropped, handed}
-use Rattle.links.specs.Run.{Item, update, packet, State, appended, onward, queued, updates}
+use Rattle.links.specs.Run.{Item, update, State, appended, queued, updates}
 use Rattle.convergence.specs.Levels.{level}
 use Rattle.convergence.specs.Measure.{left, sum, weight}
 use Rattle.convergence.proofs.Places.{appended-cases, at-place, off-place, queued-cases}
-use Rattle.convergence.proofs.Sums.{sum-none, sum-one, sum-place, sum-row, sum-same, sum-table}
+use Rattle.convergence.proofs.Sums.{sum-place, sum-row, sum-table}
 
 abbrev pub weigh : World → (ℕ → ℕ) → ℕ → ℕ → List Item → ℕ
 weigh w height i k xs = sumBy (weight (w .n) (level w height i k)) xs
@@ -79,16 +78,3 @@ module _ (f : Item → ℕ) (v : ℕ) (weighs : (u : Update) → f (update u) �
       (λ e. let g = ap t e in grind (arith, tells, g))
       (λ ne. let off : t m ≡ false = ⊎-elim (λ y. absurd (ne (only m y))) (λ y. y) (cases-bool (t m)) in grind (arith, tells, off))
       (cases-eq m c)
-
--- a packet that goes on weighs less than it did
-pub onward-weighs : (n : ℕ) (lev : ℕ → ℕ) (o : Passed) (hops : ℕ) → ((j : ℕ) (q : Packet) → o ≡ handed j q → suc (q .hops) ≡ hops) → sum n (λ k. sumBy (weight n (lev k)) (onward o k)) ≤ hops
-onward-weighs n lev arrived hops h = omega (arith, sum-none n)
-onward-weighs n lev (dropped why) hops h = omega (arith, sum-none n)
-onward-weighs n lev (handed j q) hops h =
-    let e = h j q refl in
-    let all : sum n (λ k. sumBy (weight n (lev k)) (onward (handed j q) k)) ≡ cond (ltb j n) (q .hops + 1) 0 = sum-same n _ _ (λ k _. one k (eqb k j)) ∙ sum-one n j (q .hops + 1) in
-    cond-both (ltb j n) (q .hops + 1) 0 (λ y. sum n (λ k. sumBy (weight n (lev k)) (onward (handed j q) k)) ≡ y → sum n (λ k. sumBy (weight n (lev k)) (onward (handed j q) k)) ≤ hops) (λ _ f. omega (arith, e, f)) (λ _ f. omega (arith, f)) all
-  where
-    one : (k : ℕ) (t : Bool) → sumBy (weight n (lev k)) (cond t (packet q ∷ []) []) ≡ cond t (q .hops + 1) 0
-    one k true = omega arith
-    one k false = refl
