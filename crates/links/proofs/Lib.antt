@@ -2,5 +2,5 @@ mod Scans
 mod Retelling
 mod Faults
 pub mod Receiving
-mod Turning
-mod Holding
+pub mod Turning
+pub mod Holding

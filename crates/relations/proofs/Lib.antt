@@ -1,5 +1,5 @@
 mod Tables
 mod Walks
 mod Rings
-mod Reach
+pub mod Reach
 mod Orders

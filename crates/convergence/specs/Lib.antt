@@ -1,0 +1,3 @@
+pub mod Channels
+pub mod Levels
+pub mod Measure
