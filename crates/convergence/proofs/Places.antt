@@ -69,7 +69,7 @@ off-place i j a k ne =
     (λ e. e)
     (cases-bool (eqb a i && eqb k j))
 
-queued-is : (i j : ℕ) (items : List Item) (flight : ℕ → ℕ → List Item) (a k : ℕ) → queued i j items flight a k ≡ cond (eqb a i && eqb k j) items (flight a k)
+pub queued-is : (i j : ℕ) (items : List Item) (flight : ℕ → ℕ → List Item) (a k : ℕ) → queued i j items flight a k ≡ cond (eqb a i && eqb k j) items (flight a k)
 queued-is i j items flight a k =
     queued-cases (λ xs. xs ≡ cond (eqb a i && eqb k j) items (flight a k)) i j items flight a k
     (λ e f. sym (cond-true _ items (flight a k) (at-place i j a k e f)))

@@ -1,11 +1,10 @@
 -- Lists one after the other. Assumes nothing.
 use mathlib.Core.Path.{_≡_, refl, sym, ap, _∙_}
-use mathlib.Core.List.{List, [], _∷_, _++_, append-nil, append-assoc}
+use mathlib.Core.List.{List, [], _∷_, _++_, append-nil}
 use mathlib.Core.Logic.{⊎-elim}
-use Prim.Native.Nat.{ℕ, zero, suc, _+_, _<_, _≤_}
+use Prim.Native.Nat.{ℕ, zero, suc, _+_, _<_}
 use native.Mathlib.Omega.{arith}
-use lib.ListN.{length, length-append}
-use Rattle.std.proofs.shelf.Tests.{cases-eq, cases-lt}
+use Rattle.std.proofs.shelf.Tests.{cases-eq}
 use Rattle.links.specs.Local.{gather}
 
 module _ {X : Type 0} where
@@ -28,12 +27,3 @@ module _ {X : Type 0} where
       (λ e. (λ x. gather-none f m (λ j below. h j (λ same. omega arith)) x ++ f m) ∙ ap f (sym e))
       (λ ne. (λ x. gather-one f k m (omega arith) h x ++ h m (λ e. ne (sym e)) x) ∙ append-nil (f k))
       (cases-eq k m)
-
-  -- more lists are no shorter together
-  pub gather-grows : (f : ℕ → List X) (k m : ℕ) → k < m → length (gather f k) + length (f k) ≤ length (gather f m)
-  gather-grows f k zero l = absurd (omega arith)
-  gather-grows f k (suc m) l =
-      ⊎-elim
-      (λ below. let r = gather-grows f k m below in omega (arith, r, length-append (gather f m) (f m)))
-      (λ above. let e : k ≡ m = omega arith in let s = ap (λ z. length (gather f z) + length (f z)) e in omega (arith, s, length-append (gather f m) (f m)))
-      (cases-lt k m)

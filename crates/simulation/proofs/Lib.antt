@@ -2,3 +2,6 @@ mod Gathered
 mod Posted
 mod Mailed
 mod Stepping
+mod Flights
+mod Counting
+mod Wholes

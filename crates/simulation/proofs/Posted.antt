@@ -1,5 +1,5 @@
 -- What is in flight between two networks, as letters are sent, heard and lost. Assumes nothing.
-use mathlib.Core.Path.{_≡_, refl, sym, ap, _∙_, subst}
+use mathlib.Core.Path.{_≡_, refl, sym, ap, _∙_}
 use mathlib.Core.Bool.{Bool, true, false, cond, _&&_, _||_}
 use mathlib.Core.List.{List, [], _∷_, _++_, append-nil, append-assoc}
 use Prim.Native.Nat.{ℕ, _+_, _<_, _≤_}
@@ -17,12 +17,10 @@ use Rattle.advertisement.specs.declared.audience.Audience.{Audience}
 use Rattle.advertisement.specs.declared.update.Update.{Update as Message}
 use Rattle.links.specs.Held.{news}
 use Rattle.links.specs.Local.{Said, Update, gather}
-use Rattle.simulation.specs.declared.cause.Cause.{Cause}
-use Rattle.simulation.specs.declared.cause.Cause.the-variants.{NoSuchNetwork, NothingInFlight, NoLink, TooMany, Memory}
 use Rattle.simulation.specs.declared.letter.Letter.{Letter}
-use Rattle.simulation.specs.Posting.{Oldest, Overfull, whom}
+use Rattle.simulation.specs.Posting.{Oldest, whom}
 use Rattle.simulation.specs.Posts.{Post, addressed, between, cut, goes, meant, posts}
-use Rattle.simulation.proofs.Gathered.{gather-grows, gather-more}
+use Rattle.simulation.proofs.Gathered.{gather-more}
 
 with-tail : {X : Type 0} (b : Bool) (x : X) (ys zs : List X) → cond b (x ∷ (ys ++ zs)) (ys ++ zs) ≡ cond b (x ∷ ys) ys ++ zs
 with-tail true x ys zs = refl
@@ -68,26 +66,12 @@ cut-more i j k ls d left left′ l step inv =
 pub cut-all : (i j k : ℕ) (ls : List Letter) (left : List Post) → length ls ≤ k → left ++ cut i j (posts (drop k ls)) ≡ cut i j (posts ls) → left ≡ cut i j (posts ls)
 cut-all i j k ls left l inv = sym (append-nil left) ∙ ap (λ t. left ++ cut i j (posts t)) (sym (drop-all k ls l)) ∙ inv
 
--- more would be too many as well
-pub fuller : (c : Cause) (m k : ℕ) → m ≤ k → Overfull c m → Overfull c k
-fuller NoSuchNetwork m k l h = h
-fuller NothingInFlight m k l h = h
-fuller NoLink m k l h = h
-fuller TooMany m k l h = omega arith
-fuller Memory m k l h = tt
-
-pub told-full : (c told : Cause) → told ≡ c → (m k : ℕ) → m ≡ k → Overfull c m → Overfull told k
-told-full c told same m k e h = subst (λ e. Overfull e k) (sym same) (fuller c m k (omega arith) h)
-
 pub posted-more : (f : ℕ → List Post) (entry : List Post) (k : ℕ) (now next : List Post) → now ≡ entry ++ gather f k → next ≡ now ++ f k → next ≡ entry ++ gather f (k + 1)
 posted-more f entry k now next inv step = step ∙ ap (λ l. l ++ f k) inv ∙ append-assoc entry (gather f k) (f k) ∙ ap (λ l. entry ++ l) (sym (gather-more f k))
 
 -- how many letters a vector has
 pub as-many : (v : Vec Letter Global) → length (posts (vec-items v)) ≡ vec-len v
 as-many v = length-map (vec-items v) meant ∙ sym (v .ok .0)
-
-pub posted-full : (f : ℕ → List Post) (entry now : Vec Letter Global) (k m : ℕ) (c told : Cause) → told ≡ c → k < m → posts (vec-items now) ≡ posts (vec-items entry) ++ gather f k → Overfull c (vec-len now + length (f k)) → Overfull told (vec-len entry + length (gather f m))
-posted-full f entry now k m c told same l inv h = told-full c told same _ _ refl (fuller c _ _ (omega (arith, ap length inv, as-many entry, as-many now, length-append (posts (vec-items entry)) (gather f k), gather-grows f k m l)) h)
 
 pub kept : (i j : ℕ) (l : Letter) (before after : List Letter) → after ≡ before ++ l ∷ [] → false ≡ goes i j (meant l) → false ≡ goes j i (meant l) → posts after ≡ posts before ++ cut i j (meant l ∷ [])
 kept i j l before after e one other = ap posts e ∙ map-push meant before l ∙ ap (λ t. posts before ++ t) (λ x. cond (one x || other x) [] (meant l ∷ []))

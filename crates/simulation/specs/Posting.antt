@@ -11,8 +11,6 @@ use Rattle.links.specs.declared.fault.Heard.{Heard}
 use Rattle.links.specs.declared.fault.Heard.the-variants.{Taken, Refused}
 use Rattle.links.specs.declared.fault.Turned.{Turned as TurnedAnswer}
 use Rattle.links.specs.declared.fault.Turned.the-variants as Turned
-use Rattle.simulation.specs.declared.cause.Cause.{Cause}
-use Rattle.simulation.specs.declared.cause.Cause.the-variants.{NoSuchNetwork, NothingInFlight, NoLink, TooMany, Memory}
 use Rattle.simulation.specs.Posts.{Post, between}
 
 -- at place k stands what i sent to j, and nothing before it did
@@ -20,14 +18,6 @@ pub record Oldest (i j k : ℕ) (u : Update) (ps : List Post) : Type 0 where
   pub there : k < length ps
   pub first : between i j (take k ps) ≡ []
   pub here : (p : Post) → getD ps k p ≡ record { from = i; to = j; what = u }
-
--- why updates that would then be so many in flight are not sent: they are too many, or memory could not be had
-abbrev pub Overfull : Cause → ℕ → Type 0
-Overfull NoSuchNetwork m = ⊥
-Overfull NothingInFlight m = ⊥
-Overfull NoLink m = ⊥
-Overfull TooMany m = 4096 < m
-Overfull Memory m = Unit {0}
 
 -- by block, who is to be told
 abbrev pub whom : List Audience → ℕ → ℕ → Bool

@@ -7,24 +7,19 @@ ghost use lib.Dec.{eqb};
 ghost use lib.ListN.{drop, length, take};
 ghost use Rattle.std.specs.Of.Vec.{vec-items, vec-len};
 ghost use Rattle.std.specs.Options.{Cases as BySome};
-ghost use Rattle.std.specs.Results.{Cases as ByOk};
 ghost use Rattle.std.specs.Vec.{made};
 ghost use Rattle.selection.specs.Paths.{row};
 ghost use Rattle.advertisement.specs.Audiences.{in-audience};
 ghost use Rattle.links.specs.Held.{news};
 ghost use Rattle.links.specs.Local.{gather};
-ghost use Rattle.simulation.specs.Posting.{Oldest, Overfull, whom};
+ghost use Rattle.simulation.specs.Posting.{Oldest, whom};
 ghost use Rattle.simulation.specs.Posts.{addressed, between, cut, goes as goes-by, mailing, meant, posts};
-use crate::cause::Cause;
 use crate::letter::Letter;
 use advertisement::Audience;
 use advertisement::Update;
 use links::Tables;
 use std::alloc::AllocError;
 use std::alloc::Global;
-
-// The most letters that may be in flight after a step.
-const MOST_LETTERS: usize = 4096;
 
 // Whether the letter goes from one network to another.
 fn goes(letter: Letter, from: u8, to: u8) -> bool
@@ -82,19 +77,6 @@ pub fn cut_link(
     Ok(left)
 }
 
-// Puts a letter behind the others, if there is room for it.
-fn send(letters: &mut Vec<Letter>, letter: Letter) -> Result<(), Cause>
-    ensures { λ r. ⌜ ByOk r (λ _. (vec-items (now (letters .exit)) ≡ vec-items (now (letters .entry)) ++ letter ∷ []) × (vec-len (now (letters .entry)) < 4096)) (λ cause. Overfull cause (vec-len (now (letters .entry)) + 1)) ⌝ }
-{
-    if letters.len() >= MOST_LETTERS {
-        return Err(Cause::TooMany);
-    }
-    match letters.push(letter) {
-        Ok(()) => Ok(()),
-        Err(_) => Err(Cause::Memory),
-    }
-}
-
 // Sends what a network tells of a block to another, if that is to be told.
 fn post_to(
     letters: &mut Vec<Letter>,
@@ -103,14 +85,14 @@ fn post_to(
     tables: &Tables,
     block: u16,
     audience: Audience,
-) -> Result<(), Cause>
-    ensures { λ r. ⌜ ByOk r (λ _. posts (vec-items (now (letters .exit))) ≡ posts (vec-items (now (letters .entry))) ++ addressed from block (in-audience audience) (row (now (tables .entry) .advertised) block) to) (λ cause. Overfull cause (vec-len (now (letters .entry)) + length (addressed from block (in-audience audience) (row (now (tables .entry) .advertised) block) to))) ⌝ }
+) -> Result<(), AllocError>
+    ensures { λ r. ⌜ made r (λ _. posts (vec-items (now (letters .exit))) ≡ posts (vec-items (now (letters .entry))) ++ addressed from block (in-audience audience) (row (now (tables .entry) .advertised) block) to) ⌝ }
 {
     if !audience.contains(to) {
         return Ok(());
     }
     let update = tables.update(block, to);
-    send(letters, Letter { from, to, update })?;
+    letters.push(Letter { from, to, update })?;
     Ok(())
 }
 
@@ -122,8 +104,8 @@ pub fn post(
     tables: &Tables,
     block: u16,
     audience: Audience,
-) -> Result<(), Cause>
-    ensures { λ r. ⌜ ByOk r (λ _. posts (vec-items (now (letters .exit))) ≡ posts (vec-items (now (letters .entry))) ++ mailing from block (in-audience audience) (row (now (tables .entry) .advertised) block) networks) (λ cause. Overfull cause (vec-len (now (letters .entry)) + length (mailing from block (in-audience audience) (row (now (tables .entry) .advertised) block) networks))) ⌝ }
+) -> Result<(), AllocError>
+    ensures { λ r. ⌜ made r (λ _. posts (vec-items (now (letters .exit))) ≡ posts (vec-items (now (letters .entry))) ++ mailing from block (in-audience audience) (row (now (tables .entry) .advertised) block) networks) ⌝ }
 {
     for to in 0..networks {
         post_to(letters, from, to, tables, block, audience)?;
@@ -138,9 +120,9 @@ fn post_block(
     networks: u8,
     tables: &Tables,
     block: u16,
-) -> Result<(), Cause>
+) -> Result<(), AllocError>
     requires { ⌜ block < vec-len (now tables .homes) ⌝ }
-    ensures { λ r. ⌜ ByOk r (λ _. posts (vec-items (now (letters .exit))) ≡ posts (vec-items (now (letters .entry))) ++ mailing from block (whom (vec-items (now (tables .entry) .audiences)) block) (row (now (tables .entry) .advertised) block) networks) (λ cause. Overfull cause (vec-len (now (letters .entry)) + length (mailing from block (whom (vec-items (now (tables .entry) .audiences)) block) (row (now (tables .entry) .advertised) block) networks))) ⌝ }
+    ensures { λ r. ⌜ made r (λ _. posts (vec-items (now (letters .exit))) ≡ posts (vec-items (now (letters .entry))) ++ mailing from block (whom (vec-items (now (tables .entry) .audiences)) block) (row (now (tables .entry) .advertised) block) networks) ⌝ }
 {
     let Some(audience) = tables.audience(block) else {
         return Ok(());
@@ -156,9 +138,9 @@ pub fn post_all(
     networks: u8,
     tables: &Tables,
     blocks: u16,
-) -> Result<(), Cause>
+) -> Result<(), AllocError>
     requires { ⌜ blocks ≡ vec-len (now tables .homes) ⌝ }
-    ensures { λ r. ⌜ ByOk r (λ _. posts (vec-items (now (letters .exit))) ≡ posts (vec-items (now (letters .entry))) ++ gather (λ b. mailing from b (whom (vec-items (now (tables .entry) .audiences)) b) (row (now (tables .entry) .advertised) b) networks) blocks) (λ cause. Overfull cause (vec-len (now (letters .entry)) + length (gather (λ b. mailing from b (whom (vec-items (now (tables .entry) .audiences)) b) (row (now (tables .entry) .advertised) b) networks) blocks))) ⌝ }
+    ensures { λ r. ⌜ made r (λ _. posts (vec-items (now (letters .exit))) ≡ posts (vec-items (now (letters .entry))) ++ gather (λ b. mailing from b (whom (vec-items (now (tables .entry) .audiences)) b) (row (now (tables .entry) .advertised) b) networks) blocks) ⌝ }
 {
     for block in 0..blocks {
         post_block(letters, from, networks, tables, block)?;

@@ -13,6 +13,9 @@ use crate::letter::Letter;
 use crate::network::Network;
 use relations::Relations;
 
+mod hearing;
+mod turning;
+
 // The networks stand in the order of their numbers; the letters, what is in flight, in the order in which they were sent.
 #[derive(Drop)]
 pub struct Simulation {
@@ -23,7 +26,6 @@ pub struct Simulation {
     ghost all: { vec-len networks ≡ count relations },
     ghost few: { count relations ≤ 16 },
     ghost blocks: { vec-len homes ≤ 64 },
-    ghost most: { vec-len letters ≤ 4096 },
     ghost numbers: { ((i : ℕ) → getD (map number-of (vec-items networks)) i i ≡ i) },
     ghost same: { ((i : ℕ) → getD (map homes-of (vec-items networks)) i (vec-items homes) ≡ vec-items homes) },
     ghost within: { inside (count relations) (posts (vec-items letters)) ≡ true },

@@ -1,19 +1,15 @@
 // A network's steps, made aside: the network as it is then, with what it sends put behind the letters.
 ghost use mathlib.Core.Path.{_≡_};
 ghost use mathlib.Core.List.{_++_};
-ghost use Prim.Native.Nat.{_+_};
-ghost use lib.ListN.{length};
 ghost use Rattle.std.specs.Of.Vec.{vec-items, vec-len};
-ghost use Rattle.std.specs.Results.{Cases as ByOk};
+ghost use Rattle.std.specs.Vec.{made};
 ghost use Rattle.selection.specs.Paths.{row};
 ghost use Rattle.links.specs.Held.{news};
 ghost use Rattle.links.specs.Hearing.{after-hearing, after-turning, outbox-on-hearing, outbox-on-turning};
 ghost use Rattle.links.specs.Local.{gather};
-ghost use Rattle.simulation.specs.Posting.{Overfull, told-all, told-by, whom};
+ghost use Rattle.simulation.specs.Posting.{told-all, told-by, whom};
 ghost use Rattle.simulation.specs.Posts.{mailing, posts};
 ghost use Rattle.simulation.specs.Whole.{Stepped, ground-of, local, number-of};
-use crate::cause::Cause;
-use crate::cause::CauseFromAlloc;
 use crate::letter::Letter;
 use crate::network::Network;
 use crate::posting::post;
@@ -23,6 +19,7 @@ use links::Heard;
 use links::Tables;
 use links::Turned;
 use relations::Relations;
+use std::alloc::AllocError;
 
 // Sends what a network tells of a block after it heard an update; nothing after a refusal.
 fn send_heard(
@@ -32,8 +29,8 @@ fn send_heard(
     tables: &Tables,
     block: u16,
     heard: Heard,
-) -> Result<(), Cause>
-    ensures { λ r. ⌜ ByOk r (λ _. posts (vec-items (now (letters .exit))) ≡ posts (vec-items (now (letters .entry))) ++ mailing from block (told-by heard) (row (now (tables .entry) .advertised) block) networks) (λ cause. Overfull cause (vec-len (now (letters .entry)) + length (mailing from block (told-by heard) (row (now (tables .entry) .advertised) block) networks))) ⌝ }
+) -> Result<(), AllocError>
+    ensures { λ r. ⌜ made r (λ _. posts (vec-items (now (letters .exit))) ≡ posts (vec-items (now (letters .entry))) ++ mailing from block (told-by heard) (row (now (tables .entry) .advertised) block) networks) ⌝ }
 {
     let Heard::Taken(audience) = heard else {
         return Ok(());
@@ -49,8 +46,8 @@ fn send_turned(
     networks: u8,
     tables: &Tables,
     turned: Turned,
-) -> Result<(), Cause>
-    ensures { λ r. ⌜ ByOk r (λ _. posts (vec-items (now (letters .exit))) ≡ posts (vec-items (now (letters .entry))) ++ told-all turned (gather (λ b. mailing from b (whom (vec-items (now (tables .entry) .audiences)) b) (row (now (tables .entry) .advertised) b) networks) (vec-len (now (tables .entry) .homes)))) (λ cause. Overfull cause (vec-len (now (letters .entry)) + length (told-all turned (gather (λ b. mailing from b (whom (vec-items (now (tables .entry) .audiences)) b) (row (now (tables .entry) .advertised) b) networks) (vec-len (now (tables .entry) .homes)))))) ⌝ }
+) -> Result<(), AllocError>
+    ensures { λ r. ⌜ made r (λ _. posts (vec-items (now (letters .exit))) ≡ posts (vec-items (now (letters .entry))) ++ told-all turned (gather (λ b. mailing from b (whom (vec-items (now (tables .entry) .audiences)) b) (row (now (tables .entry) .advertised) b) networks) (vec-len (now (tables .entry) .homes)))) ⌝ }
 {
     let Turned::Taken = turned else {
         return Ok(());
@@ -67,8 +64,8 @@ impl Network {
         from: u8,
         update: Update,
         letters: &mut Vec<Letter>,
-    ) -> Result<Network, Cause>
-        ensures { λ r. ⌜ ByOk r (Stepped (now (self .entry)) (after-hearing (ground-of (now (relations .entry)) (now (self .entry))) (number-of (now (self .entry))) from (news update) (local (now (self .entry)))) (outbox-on-hearing (ground-of (now (relations .entry)) (now (self .entry))) (number-of (now (self .entry))) from (news update) (local (now (self .entry)))) (vec-items (now (letters .entry))) (vec-items (now (letters .exit)))) (λ cause. Overfull cause (vec-len (now (letters .entry)) + length (outbox-on-hearing (ground-of (now (relations .entry)) (now (self .entry))) (number-of (now (self .entry))) from (news update) (local (now (self .entry)))))) ⌝ }
+    ) -> Result<Network, AllocError>
+        ensures { λ r. ⌜ made r (Stepped (now (self .entry)) (after-hearing (ground-of (now (relations .entry)) (now (self .entry))) (number-of (now (self .entry))) from (news update) (local (now (self .entry)))) (outbox-on-hearing (ground-of (now (relations .entry)) (now (self .entry))) (number-of (now (self .entry))) from (news update) (local (now (self .entry)))) (vec-items (now (letters .entry))) (vec-items (now (letters .exit)))) ⌝ }
     {
         let mut tables = self.tables.duplicate(letters.allocator())?;
         let (router, heard) = self.router.hear(relations, &mut tables, from, update);
@@ -84,8 +81,8 @@ impl Network {
         other: u8,
         up: bool,
         letters: &mut Vec<Letter>,
-    ) -> Result<Network, Cause>
-        ensures { λ r. ⌜ ByOk r (Stepped (now (self .entry)) (after-turning (ground-of (now (relations .entry)) (now (self .entry))) (number-of (now (self .entry))) other up (local (now (self .entry)))) (outbox-on-turning (ground-of (now (relations .entry)) (now (self .entry))) (number-of (now (self .entry))) other up (local (now (self .entry)))) (vec-items (now (letters .entry))) (vec-items (now (letters .exit)))) (λ cause. Overfull cause (vec-len (now (letters .entry)) + length (outbox-on-turning (ground-of (now (relations .entry)) (now (self .entry))) (number-of (now (self .entry))) other up (local (now (self .entry)))))) ⌝ }
+    ) -> Result<Network, AllocError>
+        ensures { λ r. ⌜ made r (Stepped (now (self .entry)) (after-turning (ground-of (now (relations .entry)) (now (self .entry))) (number-of (now (self .entry))) other up (local (now (self .entry)))) (outbox-on-turning (ground-of (now (relations .entry)) (now (self .entry))) (number-of (now (self .entry))) other up (local (now (self .entry)))) (vec-items (now (letters .entry))) (vec-items (now (letters .exit)))) ⌝ }
     {
         let mut tables = self.tables.duplicate(letters.allocator())?;
         let (router, turned) = self.router.turn(relations, &mut tables, other, up);

@@ -1,21 +1,14 @@
--- One more block is told, or there was no room.
+-- One more block is told.
 use mathlib.Core.Path.{_≡_, ap, _∙_}
 use mathlib.Core.List.{_++_}
 use native.Mathlib.Omega.{arith}
 use Rattle.std.specs.Of.Vec.{vec-items}
-use Rattle.std.proofs.shelf.Results.{err-from-errBy}
 use Rattle.selection.specs.Paths.{row}
 use Rattle.links.specs.Local.{gather}
 use Rattle.simulation.specs.Posting.{whom}
 use Rattle.simulation.specs.Posts.{mailing, posts}
-use Rattle.simulation.proofs.Posted.{posted-full, posted-more}
+use Rattle.simulation.proofs.Posted.{posted-more}
 use Rattle.simulation.proofs.posting.post_all.Needs as need
-
-pub returns-in-Break-post-block : need.returns-in-Break-post-block
-returns-in-Break-post-block c =
-    let p = err-from-errBy (c .from-residual .result) (c .from-residual .ensures .1) in
-    let t = c .args .tables .now in
-    rw (p .1) (posted-full (λ b. mailing (c .args .from) b (whom (vec-items (t .audiences)) b) (row (t .advertised) b) (c .args .networks)) (c .args .letters .now) (c .loop-block .letters) (c .loop-block .block) (c .args .blocks) (c .in-Break-post-block .field-0 .0) (p .0) (p .2) (c .loop-block-test .taken) (c .loop-block .inv) (c .in-Break-post-block .ensures tt))
 
 pub loop-block-again : need.loop-block-again
 loop-block-again c =
