@@ -1,0 +1,5 @@
+pub mod Parts
+pub mod Digits
+pub mod Faults
+pub mod Meaning
+pub mod Words
