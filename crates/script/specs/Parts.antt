@@ -55,3 +55,18 @@ ended (b ∷ bs) = is-blank b
 unfoldable pub words : List ℕ → List (List ℕ)
 words [] = []
 words (b ∷ bs) = cond (is-blank b) (words bs) (cond (ended bs) ((b ∷ []) ∷ words bs) (opened b (words bs)))
+
+-- a line without its feed, and what follows it
+pub record Line : Type 0 where
+  pub text : List ℕ
+  pub after : List ℕ
+
+-- a byte before the first line
+abbrev pub longer : ℕ → List Line → List Line
+longer b [] = record { text = b ∷ []; after = [] } ∷ []
+longer b (l ∷ ls) = record { text = b ∷ l .text; after = l .after } ∷ ls
+
+-- a feed ends a line; the last may lack it
+unfoldable pub lines : List ℕ → List Line
+lines [] = []
+lines (b ∷ bs) = cond (is-feed b) (record { text = []; after = bs } ∷ lines bs) (longer b (lines bs))

@@ -4,6 +4,7 @@ mod command;
 mod cut;
 mod numbers;
 mod reading;
+mod script;
 mod wording;
 
 pub use cause::Cause;
@@ -13,4 +14,5 @@ pub use command::Command;
 pub use command::CommandDebug;
 pub use command::CommandPartialEq;
 pub use command::Limits;
+pub use script::Script;
 pub use wording::push_fault;
