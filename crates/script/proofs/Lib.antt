@@ -1,3 +1,6 @@
 pub mod Cuts
 pub mod Values
 pub mod Steps
+pub mod Entries
+pub mod Comments
+pub mod Back

@@ -3,4 +3,7 @@ pub mod Digits
 pub mod Faults
 pub mod Meaning
 pub mod Next
+pub mod Whole
+pub mod Written
+pub mod Laws
 pub mod Words

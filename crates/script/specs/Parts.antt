@@ -1,4 +1,5 @@
 -- How the text of a script is cut: lines, what counts in a line, and words. Assumes nothing.
+use mathlib.Core.Path.{_≡_}
 use mathlib.Core.Bool.{Bool, true, false, cond, _&&_, _||_, not}
 use mathlib.Core.List.{List, [], _∷_}
 use Prim.Native.Nat.{ℕ}
@@ -55,6 +56,10 @@ ended (b ∷ bs) = is-blank b
 unfoldable pub words : List ℕ → List (List ℕ)
 words [] = []
 words (b ∷ bs) = cond (is-blank b) (words bs) (cond (ended bs) ((b ∷ []) ∷ words bs) (opened b (words bs)))
+
+-- no feed stands in it
+abbrev pub Feedless : List ℕ → Type 0
+Feedless l = before is-feed l ≡ l
 
 -- a line without its feed, and what follows it
 pub record Line : Type 0 where

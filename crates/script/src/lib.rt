@@ -2,6 +2,7 @@
 mod cause;
 mod command;
 mod cut;
+mod laws;
 mod numbers;
 mod reading;
 mod script;
@@ -14,5 +15,10 @@ pub use command::Command;
 pub use command::CommandDebug;
 pub use command::CommandPartialEq;
 pub use command::Limits;
+pub use laws::comments_say_nothing;
+pub use laws::next_by_next_is_the_whole;
+pub use laws::scripts_read_line_by_line;
+pub use laws::written_reads_back;
+pub use laws::written_script_reads_back;
 pub use script::Script;
 pub use wording::push_fault;
