@@ -1,16 +1,26 @@
 // Cutting text into lines and words.
 ghost use mathlib.Core.Path.{_≡_};
-ghost use Rattle.std.specs.Options.{Cases as BySome};
 ghost use mathlib.Core.List.{[], _∷_};
-ghost use Rattle.script.specs.Parts.{before, content as content-of, from, is-blank, is-feed, is-mark, is-solid, stops as stops-at, words};
+ghost use Rattle.std.specs.Options.{Cases as BySome};
+ghost use Rattle.script.specs.Parts.{before, content as content-of, from, is-blank as blank, stops as stops-at, words};
 
 // Where a run of bytes stops.
 #[derive(Clone, Copy)]
 pub enum Stop {
+    // the feed that ends a line
     Feed,
+    // the mark of a comment
     Mark,
     Blank,
+    // anything but a blank
     Solid,
+}
+
+// A space, a tab or a carriage return.
+pub(crate) fn is_blank(byte: u8) -> bool
+    ensures { λ r. ⌜ r ≡ blank byte ⌝ }
+{
+    byte == b' ' || byte == b'\t' || byte == b'\r'
 }
 
 impl Stop {
@@ -20,8 +30,8 @@ impl Stop {
         match self {
             Stop::Feed => byte == b'\n',
             Stop::Mark => byte == b'#',
-            Stop::Blank => byte == b' ' || byte == b'\t' || byte == b'\r',
-            Stop::Solid => byte != b' ' && byte != b'\t' && byte != b'\r',
+            Stop::Blank => is_blank(byte),
+            Stop::Solid => !is_blank(byte),
         }
     }
 }

@@ -13,6 +13,7 @@ use crate::cause::Cause;
 use crate::command::Command;
 use crate::command::Limits;
 use crate::cut::content;
+use crate::cut::is_blank;
 use crate::cut::split_word;
 use crate::numbers::number;
 
@@ -132,10 +133,11 @@ fn read_words(content: &[u8], limits: Limits) -> Result<Option<Command>, Cause>
     Ok(Some(command))
 }
 
+// Blank or printable.
 fn is_plain(byte: u8) -> bool
     ensures { λ r. ⌜ r ≡ plain-byte byte ⌝ }
 {
-    byte == b' ' || byte == b'\t' || byte == b'\r' || byte >= 33 && byte <= 126
+    is_blank(byte) || byte > b' ' && byte <= b'~'
 }
 
 // Whether every byte is blank or printable.

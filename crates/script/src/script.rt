@@ -3,6 +3,7 @@ ghost use Prim.Native.Nat.{_+_, _^_, _<_};
 ghost use lib.ListN.{length};
 
 mod methods;
+mod taking;
 
 // Each line has a byte, so that their number fits.
 #[derive(Drop)]

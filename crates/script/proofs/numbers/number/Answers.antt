@@ -18,12 +18,13 @@ loop-byte-again c =
     let i : ℕ = c .loop-byte .byte-index in
     let m : ℕ = c .loop-byte .number in
     let read = is-some _ _ _ (c .in-Some .ensures tt) in
-    let next : capped (c .with-digit-number .result) ≡ capped (m * 10 + (getD w i 0 - 48)) = omega (arith, c .with-digit-number .ensures, read .1) in
-    (c .with-digit-number .ok,
-    capped-after (drop (i + 1) w) _ _ next ∙
-    ap (mapped capped) (sym (after-digit m (getD w i 0) (drop (i + 1) w) (read .0))) ∙
-    sym (at-drop-more (λ l. mapped capped (value-after m l)) w i 0 (c .loop-byte-test .taken)) ∙
-    c .loop-byte .inv .1)
+    let next : capped (c .with-digit-number .result) ≡ capped (m * 10 + (getD w i 0 - 48)) = omega (arith, c .with-digit-number .ensures, read .1) in (
+      c .with-digit-number .ok,
+      capped-after (drop (i + 1) w) _ _ next ∙
+          ap (mapped capped) (sym (after-digit m (getD w i 0) (drop (i + 1) w) (read .0))) ∙
+          sym (at-drop-more (λ l. mapped capped (value-after m l)) w i 0 (c .loop-byte-test .taken)) ∙
+          c .loop-byte .inv .1,
+    )
 
 pub returns-in-rest : need.returns-in-rest
 returns-in-rest c =
