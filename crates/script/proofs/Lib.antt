@@ -1,5 +1,6 @@
 pub mod Cuts
 pub mod Values
+pub mod Named
 pub mod Steps
 pub mod Entries
 pub mod Comments

@@ -9,6 +9,7 @@ use Rattle.std.specs.declared.option.Option.the-variants.{Some, None}
 use Rattle.std.specs.declared.result.Result.{Result}
 use Rattle.std.specs.declared.result.Result.the-variants.{Ok, Err}
 use Rattle.script.specs.declared.cause.Cause.{Cause}
+use Rattle.script.specs.declared.cause.Cause.the-variants.{UnknownWord}
 use Rattle.script.specs.declared.command.Command.{Command}
 use Rattle.script.specs.declared.command.Command.the-variants.{Turn, Hear, Show}
 use Rattle.script.specs.Digits.{value}
@@ -40,6 +41,10 @@ judged (Some c) x = Err c
 -- what is read, where there are n networks and b blocks: a command or a cause, and of an empty line nothing
 abbrev pub read-verb : ℕ → ℕ → Verb → List (List ℕ) → Result Command Cause
 read-verb n b v ws = judged (told (parts-have n b (form v) ws)) (asked v ws)
+
+abbrev pub read-named : ℕ → ℕ → Option Verb → List (List ℕ) → Result Command Cause
+read-named n b None ws = Err UnknownWord
+read-named n b (Some v) ws = read-verb n b v ws
 
 abbrev pub read-words : ℕ → ℕ → List (List ℕ) → Result (Option Command) Cause
 read-words n b ws = judged (told (words-have n b ws)) (meaning ws)

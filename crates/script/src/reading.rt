@@ -6,8 +6,8 @@ ghost use Rattle.std.specs.shelf.Text.{sameBytes};
 ghost use Rattle.std.specs.declared.option.Option.the-variants.{None, Some};
 ghost use Rattle.script.specs.declared.cause.Cause.the-variants.{SurplusWord};
 ghost use Rattle.script.specs.Digits.{value};
-ghost use Rattle.script.specs.Faults.{hear, is-plain as plain-byte, network, parts-have, plain, show, standing, told, turn};
-ghost use Rattle.script.specs.Meaning.{read-line as line-says, read-verb, read-words as words-say};
+ghost use Rattle.script.specs.Faults.{hear, is-plain as plain-byte, network, parts-have, plain, show, standing, told, turn, verb};
+ghost use Rattle.script.specs.Meaning.{read-line as line-says, read-named as named-says, read-verb, read-words as words-say};
 ghost use Rattle.script.specs.Parts.{words};
 use crate::cause::Cause;
 use crate::command::Command;
@@ -114,22 +114,29 @@ fn read_show(rest: &[u8], limits: Limits) -> Result<Command, Cause>
     Ok(Command::Show { block })
 }
 
+// The command of a first word and the rest.
+fn read_named(name: &[u8], rest: &[u8], limits: Limits) -> Result<Command, Cause>
+    ensures { λ r. ⌜ r ≡ named-says (limits .networks) (limits .blocks) (verb (now (name .entry))) (words (now (rest .entry))) ⌝ }
+{
+    if is(name, "turn") {
+        read_turn(rest, limits)
+    } else if is(name, "hear") {
+        read_hear(rest, limits)
+    } else if is(name, "show") {
+        read_show(rest, limits)
+    } else {
+        Err(Cause::UnknownWord)
+    }
+}
+
 // The command that the words ask for; without a word, none.
 fn read_words(content: &[u8], limits: Limits) -> Result<Option<Command>, Cause>
     ensures { λ r. ⌜ r ≡ words-say (limits .networks) (limits .blocks) (words (now (content .entry))) ⌝ }
 {
-    let Some((verb, rest)) = split_word(content) else {
+    let Some((name, rest)) = split_word(content) else {
         return Ok(None);
     };
-    let command = if is(verb, "turn") {
-        read_turn(rest, limits)?
-    } else if is(verb, "hear") {
-        read_hear(rest, limits)?
-    } else if is(verb, "show") {
-        read_show(rest, limits)?
-    } else {
-        return Err(Cause::UnknownWord);
-    };
+    let command = read_named(name, rest, limits)?;
     Ok(Some(command))
 }
 
