@@ -15,7 +15,7 @@ use Rattle.script.specs.Laws.{LineByLine, NextByNext}
 use Rattle.script.specs.Meaning.{read-line}
 use Rattle.script.specs.Next.{Ahead, ahead, ahead-in, reached}
 use Rattle.script.specs.Parts.{Feedless, Line, before, from, is-feed, lines, longer}
-use Rattle.script.specs.Whole.{Entry, entries, entries-in, listed, noted}
+use Rattle.script.specs.Whole.{Entry, entries, entries-in, headed, listed, noted}
 use Rattle.script.proofs.Cuts.{before-stop, before-on, from-on}
 use Rattle.script.proofs.Steps.{beyond, first-line}
 
@@ -51,6 +51,10 @@ module _ (n b : ℕ) where
 
 pub next-by-next : NextByNext
 next-by-next n b k bs = next-in n b k (lines bs) (follows bs)
+
+-- the same of an answer with its line and what is left
+pub entries-next : (n b k k′ : ℕ) (bs left : List ℕ) (r : Result (Option Command) Cause) → r ≡ ahead n b k bs .answer → k′ ≡ ahead n b k bs .line → left ≡ ahead n b k bs .left → entries n b k bs ≡ headed r k′ (entries n b k′ left)
+entries-next n b k k′ bs left r a l e = next-by-next n b k bs ∙ (λ i. headed (sym a i) (sym l i) (entries n b (sym l i) (sym e i)))
 
 pub entries-more : (n m k : ℕ) (bs : List ℕ) → 0 < length bs → entries n m k bs ≡ noted (read-line n m (before is-feed bs)) (k + 1) (entries n m (k + 1) (beyond bs))
 unfolding entries-in

@@ -5,3 +5,4 @@ pub mod Steps
 pub mod Entries
 pub mod Comments
 pub mod Back
+pub mod Bounds

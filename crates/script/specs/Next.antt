@@ -1,4 +1,5 @@
 -- What comes next in a script. Assumes nothing.
+use mathlib.Core.Path.{_≡_}
 use mathlib.Core.List.{List, [], _∷_}
 use Prim.Native.Nat.{ℕ, _+_, _<_}
 use Rattle.std.specs.declared.option.Option.{Option}
@@ -10,6 +11,7 @@ use Rattle.script.specs.declared.command.Command.{Command}
 use Rattle.script.specs.declared.script.Script.{Script}
 use Rattle.script.specs.Meaning.{read-line}
 use Rattle.script.specs.Parts.{Line, lines}
+use Rattle.script.specs.Written.{Within}
 
 -- what a reader has yet to read
 abbrev pub left-of : Script → List ℕ
@@ -39,8 +41,14 @@ ahead-in n b k (l ∷ ls) = reached (read-line n b (l .text)) (k + 1) (l .after)
 abbrev pub ahead : ℕ → ℕ → ℕ → List ℕ → Ahead
 ahead n b k bs = ahead-in n b k (lines bs)
 
--- a command or a cause takes at least one byte
+-- how many bytes are left: a command or a cause takes at least one, and at the end there is none
 abbrev pub Falls : Result (Option Command) Cause → ℕ → ℕ → Type 0
-Falls (Ok None) was is = Unit {0}
+Falls (Ok None) was is = is ≡ 0
 Falls (Ok (Some c)) was is = is < was
 Falls (Err c) was is = is < was
+
+-- the numbers of a command are within the limits
+abbrev pub Bounded : ℕ → ℕ → Result (Option Command) Cause → Type 0
+Bounded n b (Ok None) = Unit {0}
+Bounded n b (Ok (Some c)) = Within n b c
+Bounded n b (Err c) = Unit {0}

@@ -30,9 +30,15 @@ entries-in n b k (l ∷ ls) = noted (read-line n b (l .text)) (k + 1) (entries-i
 abbrev pub entries : ℕ → ℕ → ℕ → List ℕ → List Entry
 entries n b k bs = entries-in n b k (lines bs)
 
+-- an answer and its line, and then the entries of what is left; at the end there is none
+abbrev pub headed : Result (Option Command) Cause → ℕ → List Entry → List Entry
+headed (Ok None) k es = []
+headed (Ok (Some c)) k es = record { line = k; says = Ok c } ∷ es
+headed (Err c) k es = record { line = k; says = Err c } ∷ es
+
 -- what comes next, and then the entries of what is left
 abbrev pub listed : ℕ → ℕ → Ahead → List Entry
-listed n b a = noted (a .answer) (a .line) (entries n b (a .line) (a .left))
+listed n b a = headed (a .answer) (a .line) (entries n b (a .line) (a .left))
 
 -- commands from line k + 1 on
 abbrev pub numbered : ℕ → List Command → List Entry

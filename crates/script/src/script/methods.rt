@@ -1,7 +1,8 @@
 // Reading a script, line by line.
 ghost use mathlib.Core.Path.{_≡_};
 ghost use lib.ListN.{length};
-ghost use Rattle.script.specs.Next.{Falls, ahead, left-of, line-of};
+ghost use Rattle.script.specs.Next.{Bounded, Falls, ahead, left-of, line-of};
+ghost use Rattle.script.specs.Whole.{entries, headed};
 use crate::cause::Cause;
 use crate::command::Command;
 use crate::command::Limits;
@@ -32,6 +33,8 @@ impl<'a> Script<'a> {
         ensures answer { λ r. ⌜ r ≡ ahead (limits .networks) (limits .blocks) (line-of (now (self .entry))) (left-of (now (self .entry))) .answer ⌝ }
         ensures line { λ _. ⌜ line-of (now (self .exit)) ≡ ahead (limits .networks) (limits .blocks) (line-of (now (self .entry))) (left-of (now (self .entry))) .line ⌝ }
         ensures left { λ _. ⌜ left-of (now (self .exit)) ≡ ahead (limits .networks) (limits .blocks) (line-of (now (self .entry))) (left-of (now (self .entry))) .left ⌝ }
+        ensures whole { λ r. ⌜ entries (limits .networks) (limits .blocks) (line-of (now (self .entry))) (left-of (now (self .entry))) ≡ headed r (line-of (now (self .exit))) (entries (limits .networks) (limits .blocks) (line-of (now (self .exit))) (left-of (now (self .exit)))) ⌝ }
+        ensures within { λ r. ⌜ Bounded (limits .networks) (limits .blocks) r ⌝ }
         ensures falls { λ r. ⌜ Falls r (length (left-of (now (self .entry)))) (length (left-of (now (self .exit)))) ⌝ }
     {
         while !self.rest.is_empty() {
