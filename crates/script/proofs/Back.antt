@@ -1,15 +1,14 @@
 -- What is written reads back. Assumes nothing.
-use mathlib.Core.Path.{_≡_, refl, sym, ap, subst, _∙_}
+use mathlib.Core.Path.{_≡_, refl, sym, ap, _∙_}
 use mathlib.Core.Bool.{Bool, true, false, cond, _&&_, _||_, not}
 use mathlib.Core.List.{List, [], _∷_, _++_, append-nil}
-use Prim.Native.Nat.{ℕ, _+_, _-_, _*_, _/_, _%_, _<_, _≤_, _^_}
+use Prim.Native.Nat.{ℕ, _+_, _-_, _*_, _/_, _%_, _<_, _^_}
 use native.Mathlib.Omega.{arith}
 use lib.Chars.{codes}
 use lib.Dec.{leb}
 use lib.ListN.{length}
 use Rattle.std.specs.Written.{decimal}
-use Rattle.std.specs.declared.option.Option.{Option}
-use Rattle.std.specs.declared.option.Option.the-variants.{Some, None}
+use Rattle.std.specs.declared.option.Option.the-variants.{Some}
 use Rattle.std.specs.declared.result.Result.the-variants.{Ok}
 use Rattle.std.proofs.shelf.Decimals.{decimal-by-steps, decimal-some}
 use Rattle.std.proofs.shelf.Tests.{and-parts, and-from, lt-leb}
@@ -22,8 +21,8 @@ use Rattle.script.specs.Faults.{is, plain, is-plain, told, words-have}
 use Rattle.script.specs.Laws.{ReadsBack, ScriptReadsBack}
 use Rattle.script.specs.Meaning.{judged, meaning, read-line, read-words}
 use Rattle.script.specs.Parts.{Feedless, before, content, ended, is-blank, is-feed, is-mark, lines, opened, words}
-use Rattle.script.specs.Whole.{entries, entries-in, noted, numbered}
-use Rattle.script.specs.Written.{AllWithin, Within, all-written, said, spaced, written}
+use Rattle.script.specs.Whole.{entries-in, noted}
+use Rattle.script.specs.Written.{Within, all-written, said, spaced, written}
 use Rattle.script.proofs.Cuts.{before-on, words-blank, words-last, words-on}
 use Rattle.script.proofs.Entries.{line-by-line}
 use Rattle.script.proofs.Values.{after-digit, after-other}

@@ -1,22 +1,19 @@
 -- The numbers of a command that is read are within the limits. Assumes nothing.
-use mathlib.Core.Path.{_≡_, refl, sym, ap, subst, _∙_}
-use mathlib.Core.Bool.{Bool, true, false, cond, _||_, not}
+use mathlib.Core.Path.{_≡_, refl, subst}
+use mathlib.Core.Bool.{Bool, true, false, cond, not}
 use mathlib.Core.List.{List, [], _∷_}
 use Prim.Native.Nat.{ℕ, _<_}
 use native.Mathlib.Omega.{arith}
-use lib.Dec.{leb}
 use Rattle.std.specs.Options.{isSome, mapped, valueOr}
 use Rattle.std.specs.declared.option.Option.{Option}
 use Rattle.std.specs.declared.option.Option.the-variants.{Some, None}
-use Rattle.std.specs.declared.result.Result.{Result}
-use Rattle.std.specs.declared.result.Result.the-variants.{Ok, Err}
+use Rattle.std.specs.declared.result.Result.the-variants.{Ok}
 use Rattle.std.proofs.shelf.Tests.{leb-false, or-parts, both-ways}
 use Rattle.script.specs.declared.cause.Cause.{Cause}
 use Rattle.script.specs.declared.cause.Cause.the-variants.{BadByte, UnknownWord, MissingWord, SurplusWord, NotANumber, NoSuchNetwork, NoSuchBlock}
 use Rattle.script.specs.declared.command.Command.{Command}
-use Rattle.script.specs.declared.command.Command.the-variants.{Turn, Hear, Show}
 use Rattle.script.specs.Digits.{value}
-use Rattle.script.specs.Faults.{Part, Verb, block, first-of, form, hear, line-has, network, part-has, parts-have, reaches, show, state, told, turn, verb, verb-has, words-have}
+use Rattle.script.specs.Faults.{Part, Verb, block, form, hear, line-has, network, part-has, parts-have, reaches, show, state, told, turn, verb, verb-has, words-have}
 use Rattle.script.specs.Meaning.{asked, judged, meaning, number-at, read-line}
 use Rattle.script.specs.Parts.{content, words}
 use Rattle.script.specs.Written.{Within}

@@ -6,7 +6,7 @@ use Prim.Native.Nat.{ℕ}
 use Rattle.script.specs.declared.cause.Cause.the-variants.{BadByte}
 use Rattle.script.specs.Faults.{is, plain, told, words-have}
 use Rattle.script.specs.Laws.{CommentsSayNothing}
-use Rattle.script.specs.Meaning.{judged, meaning, read-line}
+use Rattle.script.specs.Meaning.{judged, meaning}
 use Rattle.script.specs.Parts.{before, content, is-mark, words}
 
 content-on : (t : Bool) (b : ℕ) (f g : List ℕ) → f ≡ g → cond t [] (b ∷ f) ≡ cond t [] (b ∷ g)

@@ -1,20 +1,20 @@
 -- A script, one line on. Assumes nothing.
-use mathlib.Core.Path.{_≡_, refl, sym, ap, subst, _∙_}
-use mathlib.Core.Bool.{Bool, true, false, cond, not}
+use mathlib.Core.Path.{_≡_, refl, sym, ap, _∙_}
+use mathlib.Core.Bool.{Bool, true, false}
 use mathlib.Core.List.{List, [], _∷_}
-use Prim.Native.Nat.{ℕ, _+_, _-_, _<_, _≤_}
+use Prim.Native.Nat.{ℕ, _+_, _<_, _≤_}
 use native.Mathlib.Omega.{arith}
 use lib.ListN.{length, drop, length-drop}
 use Rattle.std.specs.declared.option.Option.{Option}
-use Rattle.std.specs.declared.option.Option.the-variants.{Some, None}
+use Rattle.std.specs.declared.option.Option.the-variants.{None}
 use Rattle.std.specs.declared.result.Result.{Result}
-use Rattle.std.specs.declared.result.Result.the-variants.{Ok, Err}
+use Rattle.std.specs.declared.result.Result.the-variants.{Ok}
 use Rattle.std.proofs.shelf.Tests.{cond-true, cond-false}
 use Rattle.script.specs.declared.cause.Cause.{Cause}
 use Rattle.script.specs.declared.command.Command.{Command}
 use Rattle.script.specs.Meaning.{read-line}
-use Rattle.script.specs.Next.{Ahead, ahead, ahead-in, reached}
-use Rattle.script.specs.Parts.{Line, before, from, is-feed, lines, longer}
+use Rattle.script.specs.Next.{ahead, ahead-in, reached}
+use Rattle.script.specs.Parts.{before, from, is-feed, lines, longer}
 use Rattle.script.proofs.Cuts.{before-stop, before-on, from-stop, from-on}
 
 -- what follows the first line

@@ -14,7 +14,7 @@ unfoldable pub value-after : ℕ → List ℕ → Option ℕ
 value-after m [] = Some m
 value-after m (b ∷ bs) = cond (is-digit b) (value-after (m * 10 + (b - 48)) bs) None
 
--- the number that a word is, if it has digits alone
+-- the number that a word is, if it has digits alone; no word is empty
 abbrev pub value : List ℕ → Option ℕ
 value w = value-after 0 w
 

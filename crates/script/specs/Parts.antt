@@ -1,10 +1,9 @@
 -- How the text of a script is cut: lines, what counts in a line, and words. Assumes nothing.
 use mathlib.Core.Path.{_≡_}
-use mathlib.Core.Bool.{Bool, true, false, cond, _&&_, _||_, not}
+use mathlib.Core.Bool.{Bool, true, cond, _||_, not}
 use mathlib.Core.List.{List, [], _∷_}
 use Prim.Native.Nat.{ℕ}
-use lib.Dec.{eqb, leb}
-use lib.ListN.{drop}
+use lib.Dec.{eqb}
 use Rattle.script.specs.declared.cut.Stop.{Stop}
 use Rattle.script.specs.declared.cut.Stop.the-variants.{Feed, Mark, Blank, Solid}
 

@@ -24,6 +24,7 @@ pub(crate) fn is_blank(byte: u8) -> bool
 }
 
 impl Stop {
+    // Whether to stop at a byte.
     fn at(self, byte: u8) -> bool
         ensures { λ r. ⌜ r ≡ stops-at self byte ⌝ }
     {

@@ -6,6 +6,7 @@ ghost use Rattle.std.specs.Options.{mapped};
 ghost use Rattle.std.specs.declared.option.Option.the-variants.{None, Some};
 ghost use Rattle.script.specs.Digits.{capped, is-digit, value as value-of};
 
+// The number that a digit is.
 fn digit(byte: u8) -> Option<u8>
     ensures { λ r. ⌜ r ≡ cond (is-digit byte) (Some (byte - 48)) None ⌝ }
 {

@@ -64,6 +64,7 @@ fn pair(first: &[u8], second: &[u8], limits: Limits) -> Result<(u8, u8), Cause>
     Ok((first as u8, second as u8))
 }
 
+// `turn I J up` or `turn I J down`, behind the first word.
 fn read_turn(rest: &[u8], limits: Limits) -> Result<Command, Cause>
     ensures { λ r. ⌜ r ≡ read-verb (limits .networks) (limits .blocks) turn (words (now (rest .entry))) ⌝ }
 {
@@ -84,6 +85,7 @@ fn read_turn(rest: &[u8], limits: Limits) -> Result<Command, Cause>
     Ok(Command::Turn { first, second, up })
 }
 
+// `hear I J`, behind the first word.
 fn read_hear(rest: &[u8], limits: Limits) -> Result<Command, Cause>
     ensures { λ r. ⌜ r ≡ read-verb (limits .networks) (limits .blocks) hear (words (now (rest .entry))) ⌝ }
 {
@@ -98,6 +100,7 @@ fn read_hear(rest: &[u8], limits: Limits) -> Result<Command, Cause>
     Ok(Command::Hear { from, to })
 }
 
+// `show B`, behind the first word.
 fn read_show(rest: &[u8], limits: Limits) -> Result<Command, Cause>
     ensures { λ r. ⌜ r ≡ read-verb (limits .networks) (limits .blocks) show (words (now (rest .entry))) ⌝ }
 {

@@ -23,6 +23,7 @@ impl Cause {
         }
     }
 
+    // The cause in words.
     pub fn text(self) -> &'static str
         ensures { λ r. ⌜ now r ≡ cause-words self ⌝ }
     {

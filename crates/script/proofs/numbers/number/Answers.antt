@@ -1,11 +1,10 @@
 -- Each turn reads one digit.
 use mathlib.Core.Path.{_≡_, sym, ap, _∙_}
-use mathlib.Core.List.{List, []}
+use mathlib.Core.List.{List}
 use Prim.Native.Nat.{ℕ, _+_, _-_, _*_}
 use native.Mathlib.Omega.{arith}
 use lib.ListN.{drop, getD}
 use Rattle.std.specs.Options.{mapped}
-use Rattle.std.specs.declared.option.Option.{Option}
 use Rattle.std.specs.declared.option.Option.the-variants.{Some}
 use Rattle.std.proofs.shelf.Lists.{at-drop-more, at-drop-all}
 use Rattle.script.specs.Digits.{capped, value-after}
@@ -40,7 +39,6 @@ unfolding value-after
 returns c =
     let m : ℕ = c .loop-byte .number in
     let same : m ≡ capped m = omega (arith, c .loop-byte .inv .0) in
-    let end : Option ℕ = Some (capped m) in
     ap (λ v. Some v) same ∙
     sym (at-drop-all (λ l. mapped capped (value-after m l)) (c .args .word .now) (c .loop-byte .byte-index) (c .loop-byte-test .left)) ∙
     c .loop-byte .inv .1

@@ -1,5 +1,5 @@
 -- Each turn passes one byte.
-use mathlib.Core.Path.{_≡_, sym, ap, _∙_}
+use mathlib.Core.Path.{sym, ap, _∙_}
 use mathlib.Core.Bool.{_&&_}
 use lib.ListN.{drop}
 use Prim.Native.Nat.{_+_}
