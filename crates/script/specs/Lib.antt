@@ -1,0 +1,9 @@
+pub mod Parts
+pub mod Digits
+pub mod Faults
+pub mod Meaning
+pub mod Next
+pub mod Whole
+pub mod Written
+pub mod Laws
+pub mod Words
