@@ -7,3 +7,7 @@ mod Counting
 mod Wholes
 mod Reaching
 mod Fresh
+mod Sets
+mod Lessening
+mod Lowest
+mod Rested

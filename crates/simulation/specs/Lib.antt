@@ -4,3 +4,4 @@ pub mod Posting
 pub mod Steps
 pub mod Simulated
 pub mod Beginning
+pub mod Resting

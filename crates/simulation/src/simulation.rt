@@ -15,6 +15,7 @@ use relations::Relations;
 
 mod hearing;
 mod making;
+mod resting;
 mod turning;
 
 // The networks stand in the order of their numbers; the letters, what is in flight, in the order in which they were sent.
