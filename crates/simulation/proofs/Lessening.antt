@@ -19,7 +19,7 @@ use Rattle.convergence.proofs.Standing.{heights-exist}
 use Rattle.simulation.specs.Resting.{Lessens}
 use Rattle.simulation.specs.Simulated.{state-of, world-of}
 use Rattle.simulation.specs.Steps.{both, hearing}
-use Rattle.simulation.specs.Whole.{ground, nowhere}
+use Rattle.mail.specs.Whole.{ground, nowhere}
 use Rattle.simulation.specs.declared.simulation.Simulation.{Simulation}
 use Rattle.simulation.proofs.Reaching.{heard-move}
 

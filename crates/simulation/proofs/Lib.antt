@@ -1,7 +1,3 @@
-mod Gathered
-mod Posted
-mod Mailed
-mod Stepping
 mod Flights
 mod Counting
 mod Wholes

@@ -12,10 +12,10 @@ use Rattle.std.specs.declared.option.Option.the-variants.{None, Some}
 use Rattle.std.proofs.shelf.Lists.{map-push, take-all, take-more}
 use Rattle.std.proofs.shelf.Tests.{cases-bool, eq-eqb}
 use Rattle.std.proofs.shelf.Ways.{tells}
-use Rattle.simulation.specs.Posts.{Post, between, goes, meant, posts}
+use Rattle.mail.specs.Posts.{Post, between, goes, meant, posts}
 use Rattle.simulation.specs.Resting.{LowestOf, lower, lower-end}
-use Rattle.simulation.specs.declared.letter.Letter.{Letter}
-use Rattle.simulation.proofs.Posted.{between-append}
+use Rattle.mail.specs.declared.letter.Letter.{Letter}
+use Rattle.mail.proofs.Posted.{between-append}
 
 module _ (ps : List Post) (p : Post) where
   still-none : (a c : ℕ) → between a c ps ≡ [] → goes a c p ≡ false → between a c (ps ++ p ∷ []) ≡ []

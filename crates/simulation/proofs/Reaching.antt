@@ -14,11 +14,11 @@ use Rattle.selection.specs.Choosing.{related}
 use Rattle.links.specs.Run.{Item, Move, Reach, State, change, hears, move, turned, turns}
 use Rattle.links.specs.World.{World}
 use Rattle.simulation.specs.Simulated.{Aside, Ready, state-of, world-of}
-use Rattle.simulation.specs.declared.letter.Letter.{Letter}
-use Rattle.simulation.specs.declared.network.Network.{Network}
+use Rattle.mail.specs.declared.letter.Letter.{Letter}
+use Rattle.mail.specs.declared.network.Network.{Network}
 use Rattle.simulation.specs.declared.simulation.Simulation.{Simulation}
 use Rattle.simulation.specs.Steps.{both, first-heard, hearing}
-use Rattle.simulation.specs.Whole.{nowhere}
+use Rattle.mail.specs.Whole.{nowhere}
 
 -- hearing where something is in flight is a move
 pub heard-move : (w : World) (i j : ℕ) (s : State) → both w i j ≡ true → 0 < length (s .flight i j) → Move w nowhere s (hearing w i j s)

@@ -21,7 +21,7 @@ use Rattle.convergence.proofs.Quiescence.{settles}
 use Rattle.simulation.specs.Resting.{NextHeard, Still}
 use Rattle.simulation.specs.Simulated.{state-of, world-of}
 use Rattle.simulation.specs.Steps.{first-heard, hearing}
-use Rattle.simulation.specs.Whole.{nowhere}
+use Rattle.mail.specs.Whole.{nowhere}
 use Rattle.simulation.specs.declared.simulation.Simulation.{Simulation}
 use Rattle.simulation.proofs.Lessening.{heard-lessens, sound}
 use Rattle.simulation.proofs.Sets.{choice-set, said-set}

@@ -1,6 +1,3 @@
-pub mod Posts
-pub mod Whole
-pub mod Posting
 pub mod Steps
 pub mod Simulated
 pub mod Beginning

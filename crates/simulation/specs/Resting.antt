@@ -11,8 +11,8 @@ use Rattle.links.specs.Run.{State}
 use Rattle.links.specs.World.{World}
 use Rattle.convergence.specs.Levels.{Heights}
 use Rattle.convergence.specs.Measure.{left}
-use Rattle.simulation.specs.declared.letter.Letter.{Letter}
-use Rattle.simulation.specs.Posts.{Post, between}
+use Rattle.mail.specs.declared.letter.Letter.{Letter}
+use Rattle.mail.specs.Posts.{Post, between}
 use Rattle.simulation.specs.Steps.{both, hearing}
 
 -- less is left in flight, whatever heights the networks are given

@@ -8,10 +8,10 @@ use Rattle.std.specs.Of.Vec.{vec-items}
 use Rattle.relations.specs.Sound.{networks}
 use Rattle.links.specs.Run.{Reach, State}
 use Rattle.links.specs.World.{World}
-use Rattle.simulation.specs.Posts.{inside, posts}
-use Rattle.simulation.specs.Whole.{ground, homes-of, nowhere, number-of, whole}
-use Rattle.simulation.specs.declared.letter.Letter.{Letter}
-use Rattle.simulation.specs.declared.network.Network.{Network}
+use Rattle.mail.specs.Posts.{inside, posts}
+use Rattle.mail.specs.Whole.{ground, homes-of, nowhere, number-of, whole}
+use Rattle.mail.specs.declared.letter.Letter.{Letter}
+use Rattle.mail.specs.declared.network.Network.{Network}
 use Rattle.simulation.specs.declared.simulation.Simulation.{Simulation}
 
 abbrev pub world-of : Simulation → World

@@ -7,10 +7,10 @@ ghost use lib.ListN.{getD};
 ghost use Rattle.std.specs.Of.Vec.{vec-items, vec-len};
 ghost use Rattle.relations.specs.Sound.{networks as count};
 ghost use Rattle.links.specs.Run.{Reach};
-ghost use Rattle.simulation.specs.Posts.{inside, posts};
-ghost use Rattle.simulation.specs.Whole.{ground, homes-of, nowhere, number-of, whole};
-use crate::letter::Letter;
-use crate::network::Network;
+ghost use Rattle.mail.specs.Posts.{inside, posts};
+ghost use Rattle.mail.specs.Whole.{ground, homes-of, nowhere, number-of, whole};
+use mail::Letter;
+use mail::Network;
 use relations::Relations;
 
 mod hearing;

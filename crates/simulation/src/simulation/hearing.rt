@@ -9,13 +9,13 @@ ghost use Rattle.std.specs.Vec.{made};
 ghost use Rattle.simulation.specs.Simulated.{Aside, Ready, state-of, world-of};
 ghost use Rattle.simulation.specs.Resting.{Lessens};
 ghost use Rattle.simulation.specs.Steps.{Hears, NotHeard, both, hearing};
-ghost use Rattle.simulation.specs.Whole.{whole};
+ghost use Rattle.mail.specs.Whole.{whole};
 use crate::cause::Cause;
 use crate::cause::CauseFromAlloc;
-use crate::letter::Letter;
-use crate::network::Network;
-use crate::posting::oldest;
-use crate::posting::without;
+use mail::Letter;
+use mail::Network;
+use mail::oldest;
+use mail::without;
 use crate::simulation::Simulation;
 
 // The most letters that may be in flight after a step.

@@ -6,12 +6,12 @@ ghost use Rattle.std.specs.Results.{Cases as ByOk};
 ghost use Rattle.std.specs.Vec.{made};
 ghost use Rattle.links.specs.Promise.{Settled};
 ghost use Rattle.links.specs.Run.{State, links as links-of};
-ghost use Rattle.simulation.specs.Posts.{posts};
+ghost use Rattle.mail.specs.Posts.{posts};
 ghost use Rattle.simulation.specs.Resting.{LowestOf, NextHeard, Rests, Still, lower as lower-by, lower-end};
 ghost use Rattle.simulation.specs.Simulated.{state-of, world-of};
 ghost use Prim.Native.Nat.{ℕ};
 use crate::cause::Cause;
-use crate::letter::Letter;
+use mail::Letter;
 use crate::simulation::Simulation;
 use std::alloc::AllocError;
 

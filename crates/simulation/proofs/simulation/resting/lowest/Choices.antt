@@ -1,6 +1,6 @@
 -- The lowest pair of the letters before.
 use lib.ListN.{take}
-use Rattle.simulation.specs.Posts.{posts}
+use Rattle.mail.specs.Posts.{posts}
 use Rattle.simulation.specs.Resting.{LowestOf}
 use Rattle.simulation.proofs.simulation.resting.lowest.Given as given
 
