@@ -50,8 +50,8 @@ pub fn without(letters: &[Letter], place: usize, heap: Global) -> Result<Vec<Let
     requires { ⌜ place < length (now letters) ⌝ }
     ensures { λ r. ⌜ made r (λ left. vec-items left ≡ take place (now (letters .entry)) ++ drop (place + 1) (now (letters .entry))) ⌝ }
 {
-    let mut left = letters[..place].to_vec(heap)?;
-    left.extend_from_slice(&letters[place + 1..])?;
+    let mut left = letters.to_vec(heap)?;
+    left.remove(place);
     Ok(left)
 }
 
