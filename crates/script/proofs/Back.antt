@@ -15,7 +15,7 @@ use Rattle.std.proofs.shelf.Tests.{and-parts, and-from, lt-leb}
 use Rattle.std.proofs.shelf.Ways.{tells}
 use Rattle.script.specs.declared.cause.Cause.the-variants.{BadByte}
 use Rattle.script.specs.declared.command.Command.{Command}
-use Rattle.script.specs.declared.command.Command.the-variants.{Turn, Hear, Show}
+use Rattle.script.specs.declared.command.Command.the-variants.{Turn, Hear, Show, Rest}
 use Rattle.script.specs.Digits.{is-digit, value, value-after}
 use Rattle.script.specs.Faults.{is, plain, is-plain, told, words-have}
 use Rattle.script.specs.Laws.{ReadsBack, ScriptReadsBack}
@@ -168,11 +168,13 @@ written-holds : (n b : ℕ) (c : Command) → n < 256 → b < 65536 → Within n
 written-holds n b (Turn i j up) p q h = spaced-holds _ _ (refl, omega arith) (number-word i (omega (arith, h .0)), (number-word j (omega (arith, h .1)), (up-word up, tt)))
 written-holds n b (Hear i j) p q h = spaced-holds _ _ (refl, omega arith) (number-word i (omega (arith, h .0)), (number-word j (omega (arith, h .1)), tt))
 written-holds n b (Show k) p q h = spaced-holds _ _ (refl, omega arith) (number-word k (omega (arith, h)), tt)
+written-holds n b Rest p q h = spaced-holds _ _ (refl, omega arith) tt
 
 said-reads : (n b : ℕ) (c : Command) → n < 256 → b < 65536 → Within n b c → read-words n b (said c) ≡ Ok (Some c)
 said-reads n b (Turn i j up) p q h = turn-reads n b i j _ _ up (value-decimal i (omega (arith, h .0))) (value-decimal j (omega (arith, h .1))) (lt-leb n i (h .0)) (lt-leb n j (h .1))
 said-reads n b (Hear i j) p q h = hear-reads n b i j _ _ (value-decimal i (omega (arith, h .0))) (value-decimal j (omega (arith, h .1))) (lt-leb n i (h .0)) (lt-leb n j (h .1))
 said-reads n b (Show k) p q h = show-reads n b k _ (value-decimal k (omega (arith, h))) (lt-leb b k h)
+said-reads n b Rest p q h = refl
 
 pub reads-back : ReadsBack
 reads-back n b c p q h = held-reads n b (written c) (said c) (written-holds n b c p q h) ∙ said-reads n b c p q h

@@ -13,7 +13,7 @@ use Rattle.script.specs.declared.cause.Cause.{Cause}
 use Rattle.script.specs.declared.cause.Cause.the-variants.{BadByte, UnknownWord, MissingWord, SurplusWord, NotANumber, NoSuchNetwork, NoSuchBlock}
 use Rattle.script.specs.declared.command.Command.{Command}
 use Rattle.script.specs.Digits.{value}
-use Rattle.script.specs.Faults.{Part, Verb, block, form, hear, line-has, network, part-has, parts-have, reaches, show, state, told, turn, verb, verb-has, words-have}
+use Rattle.script.specs.Faults.{Part, Verb, block, form, hear, line-has, network, part-has, parts-have, reaches, show, rest, state, told, turn, verb, verb-has, words-have}
 use Rattle.script.specs.Meaning.{asked, judged, meaning, number-at, read-line}
 use Rattle.script.specs.Parts.{content, words}
 use Rattle.script.specs.Written.{Within}
@@ -59,6 +59,7 @@ module _ (n b : ℕ) where
   verb-within : (v : Verb) (ws : List (List ℕ)) → Clean (parts-have n b (form v) ws) → Within n b (asked v ws)
   verb-within turn ws h = pair-below (state ∷ []) ws h
   verb-within hear ws h = pair-below [] ws h
+  verb-within rest ws h = tt
   verb-within show [] h = absurd (both-ways true (h .missing) refl)
   verb-within show (w ∷ ws) h =
       let number = or-parts (part-has n b block w NotANumber) _ (h .number) in

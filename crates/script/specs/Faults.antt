@@ -53,12 +53,14 @@ pub data Verb : Type 0 where
   turn : Verb
   hear : Verb
   show : Verb
+  rest : Verb
 
 abbrev pub verb : List ℕ → Option Verb
 verb w =
     cond (sameBytes w (codes "turn")) (Some turn)
     (cond (sameBytes w (codes "hear")) (Some hear)
-    (cond (sameBytes w (codes "show")) (Some show) None))
+    (cond (sameBytes w (codes "show")) (Some show)
+    (cond (sameBytes w (codes "rest")) (Some rest) None)))
 
 -- what the words after the first are: the number of a network or a block, or how a link stands
 pub data Part : Type 0 where
@@ -70,6 +72,7 @@ abbrev pub form : Verb → List Part
 form turn = network ∷ network ∷ state ∷ []
 form hear = network ∷ network ∷ []
 form show = block ∷ []
+form rest = []
 
 -- a link is up, or not
 abbrev pub standing : List ℕ → Option Bool

@@ -11,9 +11,9 @@ use Rattle.std.specs.declared.result.Result.the-variants.{Ok, Err}
 use Rattle.script.specs.declared.cause.Cause.{Cause}
 use Rattle.script.specs.declared.cause.Cause.the-variants.{UnknownWord}
 use Rattle.script.specs.declared.command.Command.{Command}
-use Rattle.script.specs.declared.command.Command.the-variants.{Turn, Hear, Show}
+use Rattle.script.specs.declared.command.Command.the-variants.{Turn, Hear, Show, Rest}
 use Rattle.script.specs.Digits.{value}
-use Rattle.script.specs.Faults.{Verb, turn, hear, show, form, line-has, parts-have, standing, told, verb, words-have}
+use Rattle.script.specs.Faults.{Verb, turn, hear, show, rest, form, line-has, parts-have, standing, told, verb, words-have}
 use Rattle.script.specs.Parts.{content, words}
 
 -- the number that word k is
@@ -28,6 +28,7 @@ abbrev pub asked : Verb → List (List ℕ) → Command
 asked turn ws = Turn (number-at ws 0) (number-at ws 1) (up-at ws 2)
 asked hear ws = Hear (number-at ws 0) (number-at ws 1)
 asked show ws = Show (number-at ws 0)
+asked rest ws = Rest
 
 abbrev pub meaning : List (List ℕ) → Option Command
 meaning [] = None

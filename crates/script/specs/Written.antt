@@ -5,12 +5,13 @@ use Prim.Native.Nat.{ℕ, _<_}
 use lib.Chars.{codes}
 use Rattle.std.specs.Written.{decimal}
 use Rattle.script.specs.declared.command.Command.{Command}
-use Rattle.script.specs.declared.command.Command.the-variants.{Turn, Hear, Show}
+use Rattle.script.specs.declared.command.Command.the-variants.{Turn, Hear, Show, Rest}
 
 abbrev pub said : Command → List (List ℕ)
 said (Turn i j up) = codes "turn" ∷ decimal i ∷ decimal j ∷ cond up (codes "up") (codes "down") ∷ []
 said (Hear i j) = codes "hear" ∷ decimal i ∷ decimal j ∷ []
 said (Show block) = codes "show" ∷ decimal block ∷ []
+said Rest = codes "rest" ∷ []
 
 -- words with a space between them
 abbrev pub spaced : List (List ℕ) → List ℕ
@@ -26,6 +27,7 @@ abbrev pub Within : ℕ → ℕ → Command → Type 0
 Within n b (Turn i j up) = (i < n) × (j < n)
 Within n b (Hear i j) = (i < n) × (j < n)
 Within n b (Show block) = block < b
+Within n b Rest = Unit {0}
 
 -- a line for each command
 abbrev pub all-written : List Command → List ℕ

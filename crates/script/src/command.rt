@@ -7,6 +7,8 @@ pub enum Command {
     // `to` hears the oldest thing in flight from `from`
     Hear { from: u8, to: u8 },
     Show { block: u16 },
+    // everything that is in flight is heard
+    Rest,
 }
 
 // The numbers of networks are below `networks`, those of blocks below `blocks`.

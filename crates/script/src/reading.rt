@@ -6,7 +6,7 @@ ghost use Rattle.std.specs.shelf.Text.{sameBytes};
 ghost use Rattle.std.specs.declared.option.Option.the-variants.{None, Some};
 ghost use Rattle.script.specs.declared.cause.Cause.the-variants.{SurplusWord};
 ghost use Rattle.script.specs.Digits.{value};
-ghost use Rattle.script.specs.Faults.{hear, is-plain as plain-byte, network, parts-have, plain, show, standing, told, turn, verb};
+ghost use Rattle.script.specs.Faults.{hear, is-plain as plain-byte, network, parts-have, plain, rest as rest-verb, show, standing, told, turn, verb};
 ghost use Rattle.script.specs.Meaning.{read-line as line-says, read-named as named-says, read-verb, read-words as words-say};
 ghost use Rattle.script.specs.Parts.{words};
 use crate::cause::Cause;
@@ -117,6 +117,14 @@ fn read_show(rest: &[u8], limits: Limits) -> Result<Command, Cause>
     Ok(Command::Show { block })
 }
 
+// `rest`, behind the first word.
+fn read_rest(left: &[u8], limits: Limits) -> Result<Command, Cause>
+    ensures { λ r. ⌜ r ≡ read-verb (limits .networks) (limits .blocks) rest-verb (words (now (left .entry))) ⌝ }
+{
+    no_more(left)?;
+    Ok(Command::Rest)
+}
+
 // The command of a first word and the rest.
 fn read_named(name: &[u8], rest: &[u8], limits: Limits) -> Result<Command, Cause>
     ensures { λ r. ⌜ r ≡ named-says (limits .networks) (limits .blocks) (verb (now (name .entry))) (words (now (rest .entry))) ⌝ }
@@ -127,6 +135,8 @@ fn read_named(name: &[u8], rest: &[u8], limits: Limits) -> Result<Command, Cause
         read_hear(rest, limits)
     } else if is(name, "show") {
         read_show(rest, limits)
+    } else if is(name, "rest") {
+        read_rest(rest, limits)
     } else {
         Err(Cause::UnknownWord)
     }

@@ -12,11 +12,11 @@ ghost use Rattle.simulation.specs.Steps.{Hears, NotHeard, both, hearing};
 ghost use Rattle.mail.specs.Whole.{whole};
 use crate::cause::Cause;
 use crate::cause::CauseFromAlloc;
+use crate::simulation::Simulation;
 use mail::Letter;
 use mail::Network;
 use mail::oldest;
 use mail::without;
-use crate::simulation::Simulation;
 
 // The most letters that may be in flight after a step.
 pub const MOST_LETTERS: usize = 4096;

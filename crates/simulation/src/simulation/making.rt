@@ -2,10 +2,10 @@
 ghost use mathlib.Core.Path.{_≡_};
 ghost use Rattle.std.specs.Vec.{made};
 ghost use Rattle.simulation.specs.Beginning.{AllFresh, Began, Fresh};
-use mail::Network;
 use crate::simulation::Simulation;
 use links::Router;
 use links::Tables;
+use mail::Network;
 use relations::Relations;
 use std::alloc::AllocError;
 use std::alloc::Global;

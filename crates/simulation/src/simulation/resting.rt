@@ -11,8 +11,8 @@ ghost use Rattle.simulation.specs.Resting.{LowestOf, NextHeard, Rests, Still, 
 ghost use Rattle.simulation.specs.Simulated.{state-of, world-of};
 ghost use Prim.Native.Nat.{ℕ};
 use crate::cause::Cause;
-use mail::Letter;
 use crate::simulation::Simulation;
+use mail::Letter;
 use std::alloc::AllocError;
 
 // Whether one pair of networks comes before another.

@@ -9,12 +9,12 @@ ghost use Rattle.simulation.specs.Simulated.{Aside2, state-of, world-of};
 ghost use Rattle.simulation.specs.Steps.{NotTurned, Turns, both};
 use crate::cause::Cause;
 use crate::cause::CauseFromAlloc;
+use crate::simulation::Simulation;
+use crate::simulation::hearing::MOST_LETTERS;
 use mail::Letter;
 use mail::Network;
 use mail::cut_link;
 use mail::turn_both;
-use crate::simulation::Simulation;
-use crate::simulation::hearing::MOST_LETTERS;
 use relations::Relation;
 
 impl Simulation {
