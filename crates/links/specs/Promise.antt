@@ -50,7 +50,7 @@ pub record Heard (w : World) (at : Lookup) (s : State) : Type 0 where
   pub progress : (i j : ℕ) (x : Item) (rest : List Item) → s .flight i j ≡ x ∷ rest → Move w at s (taken w at i j x rest s)
   pub unrefused : (i j : ℕ) (u : Update) (rest : List Item) → s .flight i j ≡ update u ∷ rest → hearing-fault w j (s .locals j) i u ≡ None
 
--- every network goes by the stable routing, and nothing else is left in any table
+-- every network goes by the stable routing, and of the networks and blocks that there are nothing else is left in the tables
 pub record Settled (w : World) (s : State) : Type 0 where
   pub chosen : (i b : ℕ) → i < w .n → b < w .blocks → choice w i (s .locals i) b ≡ stable w (links s) b i
   pub advertised : (i k b : ℕ) → i < w .n → k < w .n → b < w .blocks → s .locals i .advertised b k ≡ tells (w .rel i) (links s i) i k (stable w (links s) b i)
@@ -62,8 +62,8 @@ pub record Arrive (w : World) (at : Lookup) (s : State) : Type 0 where
   pub enough : (i b j : ℕ) (path : List ℕ) → i < w .n → choice w i (s .locals i) b ≡ via j path → length path < w .n
   pub home : (b : ℕ) (p : Packet) → at (p .address) ≡ Some b → passed w at (w .home b) (s .locals (w .home b)) p ≡ arrived
 
--- THE PROMISE, of every state of every run. From here, if links stay as they are, the telling ends whichever item is
--- heard next, and it does not end because something is stuck; when no update is in flight every network goes by the one
+-- THE PROMISE, of every state of every run. From here, if links stay as they are and nothing new is sent, the telling ends
+-- whichever item is heard next, and it does not end because something is stuck; when no update is in flight every network goes by the one
 -- stable routing, whatever the past was, and packets arrive; and at no moment is an unpaid path held.
 pub record Promise (w : World) (at : Lookup) (s : State) : Type 0 where
   pub ends : Ends w at s

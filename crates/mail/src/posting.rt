@@ -45,12 +45,14 @@ pub fn oldest(letters: &[Letter], from: u8, to: u8) -> Option<(usize, Update)>
     None
 }
 
-// All letters but one.
+// All letters but the one at a place, if there is one.
 pub fn without(letters: &[Letter], place: usize, heap: Global) -> Result<Vec<Letter>, AllocError>
-    requires { ⌜ place < length (now letters) ⌝ }
     ensures { λ r. ⌜ made r (λ left. vec-items left ≡ take place (now (letters .entry)) ++ drop (place + 1) (now (letters .entry))) ⌝ }
 {
     let mut left = letters.to_vec(heap)?;
+    if place >= left.len() {
+        return Ok(left);
+    }
     left.remove(place);
     Ok(left)
 }

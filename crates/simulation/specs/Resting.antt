@@ -46,7 +46,7 @@ pub record NextHeard (w : World) (s t : State) : Type 0 where
   pub lowest : (a c : ℕ) → lower a c i j ≡ true → s .flight a c ≡ []
   pub step : t ≡ hearing w i j s
 
--- from one state to another, always by hearing the oldest of the lowest pair that has something in flight, until nothing is
-pub data Rests (w : World) : State → State → Type 0 where
-  still : (s : State) → Still s → Rests w s s
-  next : (s t u : State) → NextHeard w s t → Rests w t u → Rests w s u
+-- from one state to another by any number of such hearings
+pub data Hearings (w : World) (s : State) : State → Type 0 where
+  none : Hearings w s s
+  more : {t u : State} → Hearings w s t → NextHeard w t u → Hearings w s u

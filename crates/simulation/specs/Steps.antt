@@ -21,7 +21,7 @@ first-heard w i j (x ∷ rest) s = taken w nowhere i j x rest s
 abbrev pub hearing : World → ℕ → ℕ → State → State
 hearing w i j s = first-heard w i j (s .flight i j) s
 
--- how many updates are in flight
+-- how much is in flight: updates, as long as no packets are sent
 abbrev pub afloat : World → State → ℕ
 afloat w s = sum (w .n) (λ i. sum (w .n) (λ j. length (s .flight i j)))
 

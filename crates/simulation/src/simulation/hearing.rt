@@ -2,6 +2,7 @@
 ghost use mathlib.Core.Path.{_≡_};
 ghost use mathlib.Core.Bool.{true};
 ghost use Prim.Native.Nat.{_<_, _≤_};
+ghost use lib.Dec.{ltb};
 ghost use lib.ListN.{length, set};
 ghost use Rattle.std.specs.Of.Vec.{vec-items};
 ghost use Rattle.std.specs.Results.{Cases as ByOk};
@@ -18,8 +19,15 @@ use mail::Network;
 use mail::oldest;
 use mail::without;
 
-// The most letters that may be in flight after a step.
-pub const MOST_LETTERS: usize = 4096;
+// The most letters that a hearing or a turn may leave in flight.
+const MOST_LETTERS: usize = 4096;
+
+// Whether there are more letters than may be in flight.
+pub fn too_many(letters: &[Letter]) -> bool
+    ensures { λ r. ⌜ r ≡ ltb 4096 (length (now (letters .entry))) ⌝ }
+{
+    letters.len() > MOST_LETTERS
+}
 
 impl Simulation {
     // What is left in flight when network `to` has heard the oldest update from `from`, and that network as it is then.
@@ -56,7 +64,7 @@ impl Simulation {
         ensures falls { λ r. ⌜ made r (λ _. Lessens (world-of (now (self .entry))) (state-of (now (self .entry))) (state-of (now (self .exit)))) ⌝ }
     {
         let (network, letters) = self.heard(from, to)?;
-        if letters.len() > MOST_LETTERS {
+        if too_many(letters.as_slice()) {
             return Err(Cause::TooMany);
         }
         self.place(to, network, letters);

@@ -5,9 +5,9 @@ ghost use Rattle.std.specs.Orderings.{When};
 ghost use Rattle.std.specs.Results.{Cases as ByOk};
 ghost use Rattle.std.specs.Vec.{made};
 ghost use Rattle.links.specs.Promise.{Settled};
-ghost use Rattle.links.specs.Run.{State, links as links-of};
+ghost use Rattle.links.specs.Run.{links as links-of};
 ghost use Rattle.mail.specs.Posts.{posts};
-ghost use Rattle.simulation.specs.Resting.{LowestOf, NextHeard, Rests, Still, lower as lower-by, lower-end};
+ghost use Rattle.simulation.specs.Resting.{Hearings, LowestOf, NextHeard, Still, lower as lower-by, lower-end};
 ghost use Rattle.simulation.specs.Simulated.{state-of, world-of};
 ghost use Prim.Native.Nat.{ℕ};
 use crate::cause::Cause;
@@ -73,7 +73,7 @@ impl Simulation {
     pub fn rest(&mut self) -> Result<(), AllocError>
         ensures world { λ _. ⌜ world-of (now (self .exit)) ≡ world-of (now (self .entry)) ⌝ }
         ensures links { λ _. ⌜ ((i k : ℕ) → links-of (state-of (now (self .exit))) i k ≡ links-of (state-of (now (self .entry))) i k) ⌝ }
-        ensures order { λ _. ⌜ ((t : State) → Rests (world-of (now (self .entry))) (state-of (now (self .exit))) t → Rests (world-of (now (self .entry))) (state-of (now (self .entry))) t) ⌝ }
+        ensures heard { λ _. ⌜ Hearings (world-of (now (self .entry))) (state-of (now (self .entry))) (state-of (now (self .exit))) ⌝ }
         ensures still { λ r. ⌜ made r (λ _. Still (state-of (now (self .exit)))) ⌝ }
         ensures settled { λ r. ⌜ made r (λ _. Settled (world-of (now (self .entry))) (state-of (now (self .exit)))) ⌝ }
     {

@@ -10,7 +10,7 @@ ghost use Rattle.simulation.specs.Steps.{NotTurned, Turns, both};
 use crate::cause::Cause;
 use crate::cause::CauseFromAlloc;
 use crate::simulation::Simulation;
-use crate::simulation::hearing::MOST_LETTERS;
+use crate::simulation::hearing::too_many;
 use mail::Letter;
 use mail::Network;
 use mail::cut_link;
@@ -53,7 +53,7 @@ impl Simulation {
         ensures played { λ r. ⌜ ByOk r (λ _. Turns (world-of (now (self .entry))) one other up (state-of (now (self .entry))) (state-of (now (self .exit)))) (λ cause. NotTurned (world-of (now (self .entry))) one other up (state-of (now (self .entry))) cause × (now (self .exit) ≡ now (self .entry))) ⌝ }
     {
         let (first, second, letters) = self.turned(one, other, up)?;
-        if letters.len() > MOST_LETTERS {
+        if too_many(letters.as_slice()) {
             return Err(Cause::TooMany);
         }
         self.networks[other as usize] = second;

@@ -15,11 +15,6 @@ use Rattle.mail.proofs.Posted.{oldest-front}
 use Rattle.simulation.proofs.Wholes.{heard-some, heard-whole, heard-within, homes-at, number-at}
 use Rattle.simulation.proofs.simulation.Simulation.heard.Needs as need
 
-pub without-requires : need.without-requires
-without-requires c κs =
-    let old : Oldest (c .args .from) (c .args .to) (c .in-Some .place) (c .in-Some .update) (c .as-slice .result .now) = c .in-Some .ensures tt in
-    omega (arith, old .there, ap length (c .as-slice .ensures .value), ap length (c .as-slice-2 .ensures .value))
-
 pub returns : need.returns
 returns c =
     let x = c .args .self .now in

@@ -7,11 +7,14 @@ use Rattle.links.specs.World.{World}
 use Rattle.links.specs.Run.{State, links}
 use Rattle.convergence.specs.Levels.{Heights}
 use Rattle.convergence.specs.Measure.{left}
-use Rattle.simulation.specs.Resting.{NextHeard, Rests, Still, next}
+use Rattle.simulation.specs.Resting.{Hearings, NextHeard, Still, more, none}
 use Rattle.simulation.specs.Simulated.{state-of, world-of}
 use Rattle.simulation.proofs.Lessening.{heights}
 use Rattle.simulation.proofs.Rested.{links-heard, next-lessens, settled}
 use Rattle.simulation.proofs.simulation.Simulation.rest.Needs as need
+
+pub loop-holds : need.loop-holds
+loop-holds c = (refl, λ i k. refl, none)
 
 pub loop-less : need.loop-less
 loop-less c =
@@ -27,7 +30,7 @@ loop-again c =
     let inv = c .loop .inv in
     let heard = when-true _ _ (c .if-branch .taken) (c .in-Continue-hear-next .ensures tt .heard) in
     let here : NextHeard (world-of (c .args .self .now)) (state-of x) (state-of (c .hear-next .last .self)) = subst (λ v. NextHeard v (state-of x) (state-of (c .hear-next .last .self))) (inv .0) heard in
-    (c .hear-next .ensures .world ∙ inv .0, λ i k. links-heard (world-of x) (state-of x) (state-of (c .hear-next .last .self)) heard i k ∙ inv .1 i k, λ t r. inv .2 t (next (state-of x) (state-of (c .hear-next .last .self)) t here r))
+    (c .hear-next .ensures .world ∙ inv .0, λ i k. links-heard (world-of x) (state-of x) (state-of (c .hear-next .last .self)) heard i k ∙ inv .1 i k, more (inv .2) here)
 
 pub returns : need.returns
 returns c =
@@ -38,7 +41,7 @@ returns c =
     record {
       world = c .hear-next .ensures .world ∙ inv .0;
       links = λ i k. ap (λ s. links s i k) same ∙ inv .1 i k;
-      order = λ t r. inv .2 t (subst (λ s. Rests (world-of (c .args .self .now)) s t) same r);
+      heard = subst (Hearings (world-of (c .args .self .now)) (state-of (c .args .self .now))) (sym same) (inv .2);
       still = subst Still (sym same) (done .0);
       settled = subst {A = World × State} (λ z. Settled (z .0) (z .1)) (λ y. (inv .0 y, sym same y)) (settled x (done .0));
     }

@@ -4,6 +4,7 @@ use mathlib.Core.Logic.{∥∥₁-map}
 use native.Mathlib.Omega.{arith}
 use lib.ListN.{set, length-map}
 use Rattle.std.specs.Of.Vec.{vec-items}
+use Rattle.std.proofs.shelf.Tests.{ltb-false, ltb-true}
 use Rattle.relations.specs.Sound.{networks}
 use Rattle.links.specs.Run.{Reach}
 use Rattle.mail.specs.Posts.{meant, posts}
@@ -15,14 +16,14 @@ use Rattle.simulation.proofs.Reaching.{turned-reach}
 use Rattle.simulation.proofs.Wholes.{homes-set, number-set}
 use Rattle.simulation.proofs.simulation.Simulation.turn.Needs as need
 
-pub returns-then-len-gt-MOST-LETTERS : need.returns-then-len-gt-MOST-LETTERS
-returns-then-len-gt-MOST-LETTERS c =
+pub returns-then-too-many : need.returns-then-too-many
+returns-then-too-many c =
     let x = c .args .self .now in
     let done = c .in-Continue-first .ensures tt in
     let ls = vec-items (c .in-Continue-first .letters) in
     let many = counted (networks (x .relations)) (posts ls) (done .2 .within) in
     let same = ap (afloat (world-of x)) (done .2 .state) in
-    record { world = refl; played = ((done .0, done .1, omega (arith, many, same, length-map ls meant, c .in-Continue-first .letters .ok .0, c .if-len-gt-MOST-LETTERS .taken, c .len .ensures)), refl) }
+    record { world = refl; played = ((done .0, done .1, omega (arith, many, same, length-map ls meant, c .in-Continue-first .letters .ok .0, ltb-true 4096 _ (sym (c .too-many .ensures) ∙ c .if-too-many .taken), c .as-slice .ensures .len)), refl) }
 
 pub ghost-self : need.ghost-self
 ghost-self c =
@@ -49,7 +50,7 @@ returns c =
       played = record {
         below = done .0;
         tied = done .1;
-        room = omega (arith, many, length-map ls meant, c .in-Continue-first .letters .ok .0, c .if-len-gt-MOST-LETTERS .left, c .len .ensures);
+        room = omega (arith, many, length-map ls meant, c .in-Continue-first .letters .ok .0, ltb-false 4096 _ (sym (c .too-many .ensures) ∙ c .if-too-many .left), c .as-slice .ensures .len);
         step = done .2 .state;
       };
     }
