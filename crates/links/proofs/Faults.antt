@@ -7,7 +7,6 @@ use Prim.Native.Nat.{ℕ, _+_, _<_, _≤_}
 use native.Mathlib.Omega.{arith}
 use lib.Dec.{eqb, ltb, leb}
 use lib.ListN.{length, take, replicate, length-append, length-replicate}
-use Rattle.std.specs.shelf.Lists.{All}
 use Rattle.std.proofs.shelf.Lists.{length-take-le, take-append-le}
 use Rattle.std.proofs.shelf.Tests.{or-left, or-from}
 use Rattle.std.proofs.shelf.Ways.{tells}
@@ -15,6 +14,7 @@ use Rattle.std.specs.declared.option.Option.{Option}
 use Rattle.std.specs.declared.option.Option.the-variants.{None, Some}
 use Rattle.links.specs.declared.fault.Fault.{Fault}
 use Rattle.links.specs.declared.fault.Fault.the-variants.{BadLength, NoSuchNetwork, NoSuchBlock, NotRelated, LinkDown, WrongStart, WrongEnd, Repeats, NotPaid, NoLink}
+use Rattle.relations.proofs.Firsts.{none-of}
 use Rattle.selection.specs.Choosing.{related}
 use Rattle.links.specs.World.{World}
 use Rattle.links.specs.Local.{Update, Local}
@@ -23,10 +23,6 @@ use Rattle.links.specs.Hearing.{faults, first-of, told, hearing-fault, hearing
 use Rattle.advertisement.specs.Updates.{padded}
 
 -- where nothing is told, there is no fault
-none-of : (has : Fault → Bool) (fs : List Fault) → first-of has fs ≡ None → All (λ f. has f ≡ false) fs
-none-of has [] e = tt
-none-of has (f ∷ fs) e = let h : (has f ≡ false) × (first-of has fs ≡ None) = grind (arith, tells) in (h .0, none-of has fs (h .1))
-
 pub none-has : (has : Fault → Bool) → told has ≡ None → (f : Fault) → has f ≡ false
 none-has has e BadLength = none-of has faults e .0
 none-has has e NoSuchNetwork = none-of has faults e .1 .0

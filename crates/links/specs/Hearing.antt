@@ -1,5 +1,5 @@
 -- What a network does with what it hears and with a link that turns, refusals too. Assumes nothing.
-use mathlib.Core.Bool.{Bool, true, false, cond, _&&_, _||_, not}
+use mathlib.Core.Bool.{Bool, true, false, _&&_, _||_, not}
 use mathlib.Core.List.{List, [], _∷_}
 use Prim.Native.Nat.{ℕ}
 use lib.Dec.{eqb, ltb, leb}
@@ -7,6 +7,7 @@ use lib.ListN.{length}
 use Rattle.std.specs.declared.option.Option.{Option}
 use Rattle.std.specs.declared.option.Option.the-variants.{None, Some}
 use Rattle.relations.specs.Between.{Between}
+pub use Rattle.relations.specs.Lists.{first-of}
 use Rattle.selection.specs.Choosing.{related}
 use Rattle.links.specs.declared.fault.Fault.{Fault}
 use Rattle.links.specs.declared.fault.Fault.the-variants.{BadLength, NoSuchNetwork, NoSuchBlock, NotRelated, LinkDown, WrongStart, WrongEnd, Repeats, NotPaid, NoLink}
@@ -30,10 +31,6 @@ number NoLink = 10
 -- all faults, in the order in which they are told: by number, and those of one number as listed
 abbrev pub faults : List Fault
 faults = BadLength ∷ NoSuchNetwork ∷ NoSuchBlock ∷ NotRelated ∷ LinkDown ∷ WrongStart ∷ WrongEnd ∷ Repeats ∷ NotPaid ∷ NoLink ∷ []
-
-abbrev pub first-of : (Fault → Bool) → List Fault → Option Fault
-first-of has [] = None
-first-of has (f ∷ fs) = cond (has f) (Some f) (first-of has fs)
 
 abbrev pub told : (Fault → Bool) → Option Fault
 told has = first-of has faults

@@ -1,10 +1,11 @@
 -- One network: what it holds, and what it tells anew. Assumes nothing.
 use mathlib.Core.Bool.{Bool, true, false, cond, _&&_, not}
-use mathlib.Core.List.{List, [], _∷_, _++_}
-use Prim.Native.Nat.{ℕ, zero, suc}
+use mathlib.Core.List.{List, [], _∷_}
+use Prim.Native.Nat.{ℕ}
 use lib.Dec.{eqb, ltb}
 use Rattle.std.specs.declared.option.Option.{Option}
 use Rattle.std.specs.declared.option.Option.the-variants.{None, Some}
+pub use Rattle.relations.specs.Lists.{gather}
 use Rattle.selection.specs.Choosing.{Choice, choose, shorter}
 use Rattle.advertisement.specs.Telling.{tells}
 use Rattle.advertisement.specs.Sayings.{same-saying}
@@ -52,11 +53,6 @@ retold w i these s = record {
 -- an update of block b goes to neighbour k: what is told is something else than what was told last
 abbrev pub sends : World → ℕ → (ℕ → Bool) → Local → ℕ → ℕ → Bool
 sends w i these s b k = due w these s b k && not (same-saying (tells-now w i s b k) (s .advertised b k))
-
--- one list after the other: f 0 ++ .. ++ f (k - 1)
-abbrev pub gather : {X : Type 0} → (ℕ → List X) → ℕ → List X
-gather f zero = []
-gather f (suc k) = gather f k ++ f k
 
 -- what network i then sends to neighbour k, block by block
 abbrev pub sent : World → ℕ → (ℕ → Bool) → Local → ℕ → List Update

@@ -1,5 +1,6 @@
-mod Tables
-mod Walks
-mod Rings
-pub mod Reach
+pub mod Tables
 mod Orders
+pub mod Chains
+pub mod Reach
+pub mod Gathered
+pub mod Firsts

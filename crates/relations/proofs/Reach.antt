@@ -6,13 +6,11 @@ use mathlib.Core.Logic.{_⊎_, inl, inr, ⊎-elim}
 use Prim.Native.Nat.{ℕ, zero, suc, _+_, _<_, _≤_}
 use native.Mathlib.Omega.{arith}
 use Rattle.std.proofs.shelf.Tests.{cases-bool, cases-eq, or-cases, or-left, or-right, and-parts, and-from}
-use Rattle.relations.specs.Between.{Between, opposite}
+use Rattle.relations.specs.Between.{Between, opposite, provider}
 use Rattle.relations.specs.Cycle.{Chain, NoCycle}
 use Rattle.relations.specs.Heights.{Heights}
-use Rattle.relations.specs.Walk.{provider}
 use Rattle.relations.specs.declared.relation.Relation.the-variants.{Provider}
-use Rattle.relations.proofs.Rings.{chain-join, among}
-use Rattle.relations.proofs.Walks.{is-provider}
+use Rattle.relations.proofs.Chains.{among, chain-join, is-provider}
 
 abbrev one : Bool → ℕ
 one b = cond b 1 0

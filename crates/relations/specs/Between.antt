@@ -1,6 +1,6 @@
 -- What networks are to each other, and when both ends say the same. Assumes nothing.
 use mathlib.Core.Path.{_≡_}
-use mathlib.Core.Bool.{cond, _&&_}
+use mathlib.Core.Bool.{Bool, true, false, cond, _&&_}
 use mathlib.Core.List.{List}
 use Prim.Native.Nat.{ℕ, _+_, _*_, _≤_}
 use lib.Dec.{ltb, eqb}
@@ -13,6 +13,18 @@ opposite Unrelated = Unrelated
 opposite Customer = Provider
 opposite Peer = Peer
 opposite Provider = Customer
+
+abbrev pub related : Relation → Bool
+related Unrelated = false
+related Customer = true
+related Peer = true
+related Provider = true
+
+abbrev pub provider : Relation → Bool
+provider Unrelated = false
+provider Customer = false
+provider Peer = false
+provider Provider = true
 
 -- rel i j is what network j is to network i
 abbrev pub Between : Type 0

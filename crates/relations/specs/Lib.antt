@@ -1,9 +1,7 @@
+pub mod Lists
 pub mod Between
 pub mod Table
 pub mod Cycle
 pub mod Sound
-pub mod Walk
-pub mod Trace
-pub mod Checked
 pub mod Heights
 pub mod Unique

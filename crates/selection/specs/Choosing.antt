@@ -7,6 +7,7 @@ use lib.ListN.{length}
 use denote.Ref.{now}
 use Rattle.std.specs.declared.option.Option.{Option}
 use Rattle.std.specs.declared.option.Option.the-variants.{None, Some}
+pub use Rattle.relations.specs.Between.{related}
 use Rattle.relations.specs.declared.relation.Relation.{Relation}
 use Rattle.relations.specs.declared.relation.Relation.the-variants.{Unrelated, Customer, Peer, Provider}
 use Rattle.selection.specs.declared.route.Route.{Route}
@@ -29,12 +30,6 @@ rank Unrelated = 3
 rank Customer = 0
 rank Peer = 1
 rank Provider = 2
-
-abbrev pub related : Relation → Bool
-related Unrelated = false
-related Customer = true
-related Peer = true
-related Provider = true
 
 -- is the path p by j before the path q by k
 abbrev pub Order : Type 0

@@ -7,6 +7,7 @@ use std::fmt;
 use std::fs;
 use std::io;
 use std::io::Read;
+use ties::Refusal;
 
 const USAGE: &str = "usage: settle TIES   (a ties file, or - for standard input)";
 
@@ -65,19 +66,21 @@ fn load(rt: &LibcRuntime, path: &str) -> Result<Vec<u8>, Failure> {
     }
 }
 
+// Why a ties file is refused, as a line for the user.
+fn refused(heap: Global, refusal: &Refusal) -> Result<String, Failure> {
+    let line = refusal.describe(heap)?;
+    Ok(format!(heap, "ties: {line}")?)
+}
+
 fn check(rt: &LibcRuntime, path: &str) -> Result<(), Failure> {
-    let heap = rt.alloc();
     let bytes = load(rt, path)?;
-    match ties::read(bytes.as_slice(), MOST, heap) {
+    match ties::read(bytes.as_slice(), MOST, rt.alloc()) {
         Ok(relations) => {
-            let line = ties::summary(&relations, heap)?;
-            println!(rt, "{line}")?;
+            let line = ties::summary(&relations, rt.alloc())?;
+            rt.println(line.as_str())?;
             Ok(())
         }
-        Err(refusal) => {
-            let line = refusal.describe(heap)?;
-            Err(Failure::Told(format!(heap, "ties: {line}")?))
-        }
+        Err(refusal) => Err(Failure::Told(refused(rt.alloc(), &refusal)?)),
     }
 }
 

@@ -1,9 +1,9 @@
 -- What is read is accepted where no thing has a fault and there is no cycle. Assumes nothing.
-use mathlib.Core.Path.{_≡_, refl, sym, ap, _∙_, subst, fun-ext}
+use mathlib.Core.Path.{_≡_, sym, ap, _∙_}
 use mathlib.Core.List.{List}
 use Prim.Native.Nat.{ℕ, _<_, _≤_, _+_, _*_}
 use lib.ListN.{length, getD}
-use Rattle.std.specs.declared.option.Option.the-variants.{Some, None}
+use Rattle.std.specs.declared.option.Option.the-variants.{None}
 use lib.Dec.{ltb}
 use Rattle.std.proofs.shelf.Tests.{cond-false, le-ltb}
 use Rattle.relations.specs.Sound.{networks as networks-of, relation as relation-of}
@@ -11,8 +11,8 @@ use Rattle.relations.specs.Table.{count, rel}
 use Rattle.relations.specs.declared.matrix.Matrix.{Matrix}
 use Rattle.relations.specs.declared.sound.Relations.{Relations}
 use Rattle.ties.specs.File.{networks, ties, after}
-use Rattle.ties.specs.Faults.{told, head-has, end-has, CleanTies, Faultless}
-use Rattle.ties.specs.Encoding.{encoding}
+use Rattle.ties.specs.Faults.{told, head-has, CleanTies, Faultless}
+use Rattle.listing.specs.Encoding.{encoding}
 use Rattle.ties.specs.Outcome.{Accepted}
 use Rattle.ties.proofs.Decoded.{read-encodes}
 

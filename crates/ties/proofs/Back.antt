@@ -1,27 +1,23 @@
 -- Reading and writing a ties file undo each other. Assumes nothing.
-use mathlib.Core.Path.{_≡_, refl, sym, ap, _∙_, subst, fun-ext}
+use mathlib.Core.Path.{_≡_, refl, sym, _∙_, subst}
 use mathlib.Core.List.{List}
 use Prim.Native.Nat.{ℕ, _<_, _≤_}
 use native.Mathlib.Omega.{arith}
 use Rattle.std.specs.Of.Vec.{vec-items}
 use Rattle.std.specs.declared.option.Option.{Option}
 use Rattle.std.specs.declared.option.Option.the-variants.{Some, None}
-use Rattle.std.specs.declared.result.Result.{Result}
 use Rattle.std.specs.declared.result.Result.the-variants.{Ok, Err}
-use Rattle.relations.specs.Between.{Between}
 use Rattle.relations.specs.Cycle.{Cycle as CycleOf, First}
 use Rattle.relations.specs.Sound.{networks as networks-of, relation as relation-of}
 use Rattle.relations.specs.declared.sound.Relations.{Relations}
-use Rattle.ties.specs.declared.refusal.Cause.{Cause}
-use Rattle.ties.specs.declared.refusal.Place.{Place}
-use Rattle.ties.specs.declared.refusal.Place.the-variants.{Head, Tie, End}
-use Rattle.ties.specs.declared.refusal.Refusal.{Refusal}
-use Rattle.ties.specs.declared.refusal.Refusal.the-variants.{Fault, Cycle, Memory}
-use Rattle.ties.specs.File.{networks, ties, after}
+use Rattle.refusals.specs.declared.refusal.Cause.{Cause}
+use Rattle.refusals.specs.declared.refusal.Place.{Place}
+use Rattle.refusals.specs.declared.refusal.Place.the-variants.{Head, Tie, End}
+use Rattle.refusals.specs.declared.refusal.Refusal.the-variants.{Fault, Cycle, Memory}
+use Rattle.ties.specs.File.{ties, after}
 use Rattle.ties.specs.Faults.{Faultless, FirstFault}
-use Rattle.ties.specs.Encoding.{encoding}
-use Rattle.ties.specs.Laws.{Agreed, EncodedReads, EncodesBack, ReadEncodes, ReadsBack, Answers}
-use Rattle.ties.proofs.Decoded.{read-encodes}
+use Rattle.listing.specs.Encoding.{encoding}
+use Rattle.ties.specs.Laws.{EncodedReads, EncodesBack, ReadsBack}
 use Rattle.ties.proofs.Encoded.{encoded-says, encoded-faultless}
 
 pub encoded-reads : EncodedReads

@@ -1,17 +1,17 @@
 -- Which cause is told of a tie that is whole and of a known kind. Assumes nothing.
 use mathlib.Core.Path.{_≡_, refl, sym, ap, _∙_, fun-ext}
-use mathlib.Core.Bool.{Bool, true, false, cond, _&&_, _||_, not}
+use mathlib.Core.Bool.{Bool, _&&_}
 use mathlib.Core.List.{List}
-use mathlib.Core.Logic.{_⊎_, inl, inr, ⊎-elim}
-use Prim.Native.Nat.{ℕ, _+_, _<_, _≤_}
+use mathlib.Core.Logic.{_⊎_, ⊎-elim}
+use Prim.Native.Nat.{ℕ, _+_, _<_}
 use native.Mathlib.Omega.{arith}
-use lib.Dec.{eqb, ltb, leb}
+use lib.Dec.{eqb, ltb}
 use lib.ListN.{length, getD}
 use Rattle.std.proofs.shelf.Ways.{tells}
 use Rattle.relations.specs.declared.relation.Relation.{Relation}
-use Rattle.relations.specs.declared.relation.Relation.the-variants.{Unrelated, Customer, Peer, Provider}
-use Rattle.ties.specs.declared.refusal.Cause.{Cause}
-use Rattle.ties.specs.declared.refusal.Cause.the-variants.{UnknownKind, Cut, Surplus, NoSuchNetwork, BadCount, NotRising, SamePair, PeersTurned, Itself, TooMany}
+use Rattle.relations.specs.declared.relation.Relation.the-variants.{Peer, Provider}
+use Rattle.refusals.specs.declared.refusal.Cause.{Cause}
+use Rattle.refusals.specs.declared.refusal.Cause.the-variants.{UnknownKind, Cut, Surplus, NoSuchNetwork, BadCount, NotRising, SamePair, PeersTurned, Itself, TooMany}
 use Rattle.ties.specs.declared.tie.Tie.{Tie}
 use Rattle.ties.specs.Faults.{told, tie-at-has}
 use Rattle.ties.specs.Steps.{pair-has, is-peer}

@@ -1,29 +1,27 @@
 -- What is read without a fault is the encoding of the relations that it says. Assumes nothing.
-use mathlib.Core.Path.{_≡_, refl, sym, ap, _∙_, subst}
-use mathlib.Core.Bool.{Bool, true, false, cond, _&&_, _||_, not}
-use mathlib.Core.List.{List, [], _∷_, _++_, append-assoc, append-nil}
+use mathlib.Core.Path.{_≡_, refl, sym, ap, _∙_}
+use mathlib.Core.Bool.{true, false, _&&_, _||_, not}
+use mathlib.Core.List.{List, [], _∷_, _++_, append-assoc}
 use mathlib.Core.Logic.{_⊎_, inl, inr, ⊎-elim}
 use Prim.Native.Nat.{ℕ, zero, suc, _+_, _-_, _*_, _/_, _%_, _<_, _≤_}
-use native.Mathlib.Numerals.{add-one}
 use native.Mathlib.Omega.{arith}
-use lib.Dec.{eqb, ltb, leb}
-use lib.ListN.{length, getD, take, drop, length-append, length-drop, take-append-drop}
+use lib.Dec.{eqb, ltb}
+use lib.ListN.{length, getD, take, drop, length-drop}
 use Rattle.std.specs.Joined.{joined}
 use Rattle.std.proofs.shelf.Lists.{take-more, take-all, getD-drop, joined-more, length-push}
-use Rattle.std.proofs.shelf.Tests.{cases-lt, cases-eq, cases-bool, or-parts, ltb-true, eqb-true, leb-false, ltb-false, not-false, or-cases, cond-true, cond-false, lt-ltb, le-ltb}
+use Rattle.std.proofs.shelf.Tests.{cases-eq, eqb-true, leb-false, ltb-false, not-false, or-cases, cond-true, cond-false, lt-ltb, le-ltb}
 use Rattle.std.proofs.shelf.Ways.{tells}
-use Rattle.std.specs.declared.option.Option.the-variants.{Some, None}
-use Rattle.wire.specs.Reading.{word16}
-use Rattle.relations.specs.Between.{Between, opposite, with-pair}
+use Rattle.std.specs.declared.option.Option.the-variants.{None}
+use Rattle.relations.specs.Between.{Between, opposite, related, with-pair}
 use Rattle.relations.specs.declared.relation.Relation.{Relation}
 use Rattle.relations.specs.declared.relation.Relation.the-variants.{Unrelated, Customer, Peer, Provider}
-use Rattle.ties.specs.declared.refusal.Cause.the-variants.{UnknownKind, Cut, Surplus, NoSuchNetwork, BadCount, NotRising, SamePair, PeersTurned, Itself, TooMany}
+use Rattle.refusals.specs.declared.refusal.Cause.the-variants.{UnknownKind, Cut, Surplus, NoSuchNetwork, NotRising, SamePair, PeersTurned, Itself}
 use Rattle.ties.specs.File.{networks, ties, first, second, kind, meant, after}
 use Rattle.ties.specs.Faults.{told, rises, tie-has, head-has, end-has, same-pair, paired, comes-after, CleanTies, Faultless}
-use Rattle.ties.specs.Steps.{is-related}
-use Rattle.ties.specs.Encoding.{Listed, listed, upto, listing, bytes-of, encoding}
+use Rattle.relations.specs.Lists.{gather}
+use Rattle.listing.specs.Encoding.{Listed, listed, listing, bytes-of, encoding}
 use Rattle.ties.proofs.Progress.{none-has, related-paired}
-use Rattle.ties.proofs.Upto.{upto-same, upto-add, upto-blank}
+use Rattle.relations.proofs.Gathered.{gather-same, gather-add, gather-blank}
 
 abbrev tie-in : List ℕ → ℕ → Listed
 tie-in bs k = record { one = first bs k; other = second bs k; kind = kind bs k }
@@ -33,7 +31,7 @@ abbrev ties-in : List ℕ → ℕ → List Listed
 ties-in bs zero = []
 ties-in bs (suc k) = ties-in bs k ++ (tie-in bs k ∷ [])
 
-not-related : (r : Relation) → is-related r ≡ false → r ≡ Unrelated
+not-related : (r : Relation) → related r ≡ false → r ≡ Unrelated
 not-related Unrelated e = refl
 not-related Customer e = cc
 not-related Peer e = cc
@@ -82,15 +80,14 @@ module _ (n : ℕ) (rel : Between) (a b k : ℕ)
       (cases-eq i b)
 
   pub listing-more : listing n (with-pair rel a b (meant k)) ≡ listing n rel ++ (record { one = a; other = b; kind = k } ∷ [])
-  unfolding upto
   listing-more =
-      upto-add (λ i. upto (λ j. listed (rel i j) i j) n) (λ i. upto (λ j. listed (with-pair rel a b (meant k) i j) i j) n) a n _ ha
-      (λ i ne. upto-same _ _ n (λ j h. elsewhere i j (λ e. ne (e .0))))
-      (upto-add (λ j. listed (rel a j) a j) (λ j. listed (with-pair rel a b (meant k) a j) a j) b n _ hb
+      gather-add (λ i. gather (λ j. listed (rel i j) i j) n) (λ i. gather (λ j. listed (with-pair rel a b (meant k) i j) i j) n) a n _ ha
+      (λ i ne. gather-same _ _ n (λ j h. elsewhere i j (λ e. ne (e .0))))
+      (gather-add (λ j. listed (rel a j) a j) (λ j. listed (with-pair rel a b (meant k) a j) a j) b n _ hb
       (λ j ne. elsewhere a j (λ e. ne (e .1)))
       (ap (λ x. listed x a b) (pair-here rel a b (meant k)) ∙ listed-here a b k known ∙ ap (λ x. listed x a b ++ (record { one = a; other = b; kind = k } ∷ [])) (sym free))
       (λ j h. blank a j (grind (arith, tells))))
-      (λ i h. upto-blank (λ j. listed (rel i j) i j) 0 n (omega arith) (λ j l. blank i j (grind (arith, tells))))
+      (λ i h. gather-blank (λ j. listed (rel i j) i j) 0 n (omega arith) (λ j l. blank i j (grind (arith, tells))))
 
 -- what a tie with no fault is
 record Sound (bs : List ℕ) (k : ℕ) : Type 0 where
@@ -157,8 +154,8 @@ blank-after bs (suc k) clean i j h =
     (cases-eq i b)
 
 listing-is : (bs : List ℕ) (k : ℕ) → CleanTies bs k → listing (networks bs) (after bs k) ≡ ties-in bs k
-unfolding after upto
-listing-is bs zero clean = upto-blank (λ i. upto (λ j. []) (networks bs)) 0 (networks bs) (omega arith) (λ i h. upto-blank (λ j. []) 0 (networks bs) (omega arith) (λ j l. refl))
+unfolding after
+listing-is bs zero clean = gather-blank (λ i. gather (λ j. []) (networks bs)) 0 (networks bs) (omega arith) (λ i h. gather-blank (λ j. []) 0 (networks bs) (omega arith) (λ j l. refl))
 listing-is bs (suc k) clean =
     let s = sound bs k (clean k (omega arith)) in
     let fewer : CleanTies bs k = λ m l. clean m (omega arith) in

@@ -3,25 +3,28 @@ use mathlib.Core.Path.{_≡_, refl, sym, ap, _∙_, subst, fun-ext}
 use mathlib.Core.Bool.{Bool, true, false, cond, _&&_, _||_, not}
 use mathlib.Core.List.{List, [], _∷_, _++_}
 use mathlib.Core.Logic.{_⊎_, inl, inr, ⊎-elim}
-use Prim.Native.Nat.{ℕ, zero, suc, _+_, _*_, _/_, _%_, _<_, _≤_}
+use Prim.Native.Nat.{ℕ, zero, suc, _+_, _*_, _<_, _≤_}
 use native.Mathlib.Omega.{arith}
-use lib.Dec.{eqb, ltb, leb}
+use lib.Dec.{eqb, ltb}
 use lib.ListN.{length, getD, drop}
 use Rattle.std.specs.Joined.{joined}
 use Rattle.std.specs.shelf.Lists.{All}
 use Rattle.std.proofs.shelf.Lists.{getD-drop, drop-more}
-use Rattle.std.proofs.shelf.Tests.{cases-lt, cases-eq, cases-order, cond-both, ltb-true, lt-leb, le-ltb, or-right, or-left, or-from, cond-true, lt-ltb, ne-eqb, and-right}
+use Rattle.std.proofs.shelf.Tests.{cases-lt, cases-order, cond-both, ltb-true, lt-leb, le-ltb, or-right, or-left, or-from, cond-true, lt-ltb, ne-eqb, and-right}
 use Rattle.std.proofs.shelf.Ways.{tells}
-use Rattle.std.specs.declared.option.Option.the-variants.{Some, None}
+use Rattle.std.specs.declared.option.Option.the-variants.{None}
 use Rattle.relations.specs.Between.{Between, Mutual, Apart, Within, opposite, with-pair}
 use Rattle.relations.specs.declared.relation.Relation.{Relation}
 use Rattle.relations.specs.declared.relation.Relation.the-variants.{Unrelated, Customer, Peer, Provider}
-use Rattle.ties.specs.declared.refusal.Cause.{Cause}
-use Rattle.ties.specs.declared.refusal.Cause.the-variants.{UnknownKind, Cut, Surplus, NoSuchNetwork, BadCount, NotRising, SamePair, PeersTurned, Itself, TooMany}
-use Rattle.ties.specs.File.{networks, ties, first, second, kind, meant, after}
-use Rattle.ties.specs.Faults.{told, rises, tie-has, head-has, end-has, same-pair, paired, comes-after, CleanTies, Faultless}
-use Rattle.ties.specs.Encoding.{Listed, listed, upto, listing, bytes-of, encoding}
-use Rattle.ties.proofs.Upto.{upto-all, upto-at, all-at, all-append, all-weaker}
+use Rattle.refusals.specs.declared.refusal.Cause.{Cause}
+use Rattle.refusals.specs.declared.refusal.Cause.the-variants.{UnknownKind, Cut, Surplus, NoSuchNetwork, BadCount, NotRising, SamePair, PeersTurned, Itself, TooMany}
+use Rattle.ties.specs.File.{ties, first, second, kind, meant, after}
+use Rattle.ties.specs.Faults.{told, rises, tie-has, head-has, end-has, same-pair, paired, comes-after, Faultless}
+use Rattle.relations.specs.Lists.{gather}
+use Rattle.listing.specs.Encoding.{Listed, listed, listing, bytes-of, encoding}
+use Rattle.std.proofs.shelf.Elements.{all-append, all-getD, all-weaker}
+use Rattle.relations.proofs.Gathered.{gather-all, gather-at}
+use Rattle.listing.proofs.Written.{length-bytes}
 use Rattle.ties.proofs.Decoded.{Known}
 
 -- the tie that stands for none
@@ -41,12 +44,12 @@ rising-append (x ∷ xs) ys a b c = (all-append (Before x) xs ys (a .0) (c .0), 
 
 all-cross : (P Q : Listed → Type 0) (xs ys : List Listed) → ((x y : Listed) → P x → Q y → Before x y) → All P xs → All Q ys → All (λ x. All (Before x) ys) xs
 all-cross P Q [] ys h a b = tt
-all-cross P Q (x ∷ xs) ys h a b = (all-weaker Q (Before x) ys (λ y. h x y (a .0)) b, all-cross P Q xs ys h (a .1) b)
+all-cross P Q (x ∷ xs) ys h a b = (all-weaker Q (Before x) (λ y. h x y (a .0)) ys b, all-cross P Q xs ys h (a .1) b)
 
 rising-at : (ts : List Listed) (m k : ℕ) → Rising ts → m < k → k < length ts → Before (getD ts m blank) (getD ts k blank)
 rising-at [] m k r l h = absurd (omega arith)
 rising-at (t ∷ ts) m zero r l h = absurd (omega arith)
-rising-at (t ∷ ts) zero (suc k) r l h = all-at (Before t) ts k blank (omega arith) (r .0)
+rising-at (t ∷ ts) zero (suc k) r l h = all-getD (Before t) ts k blank (omega arith) (r .0)
 rising-at (t ∷ ts) (suc m) (suc k) r l h = rising-at ts m k (r .1) (omega arith) (omega arith)
 
 abbrev At : ℕ → ℕ → Listed → Type 0
@@ -58,24 +61,22 @@ cell-at Customer i j = (tt, tt)
 cell-at Peer i j = cond-both (ltb i j) _ _ (λ l. All (At i j) l × Rising l) (λ _. (((refl, refl), tt), (tt, tt))) (λ _. (tt, tt))
 cell-at Provider i j = (((refl, refl), tt), (tt, tt))
 
-row-rising : (rel : Between) (i m : ℕ) → Rising (upto (λ j. listed (rel i j) i j) m) × All (λ t. (t .one ≡ i) × (t .other < m)) (upto (λ j. listed (rel i j) i j) m)
-unfolding upto
+row-rising : (rel : Between) (i m : ℕ) → Rising (gather (λ j. listed (rel i j) i j) m) × All (λ t. (t .one ≡ i) × (t .other < m)) (gather (λ j. listed (rel i j) i j) m)
 row-rising rel i zero = (tt, tt)
 row-rising rel i (suc m) =
     let before = row-rising rel i m in
     let cell = cell-at (rel i m) i m in (
       rising-append _ _ (before .0) (cell .1) (all-cross _ _ _ _ (λ x y p q. grind (arith, tells)) (before .1) (cell .0)),
-      all-append _ _ _ (all-weaker _ _ _ (λ x p. (p .0, omega (arith, p .1))) (before .1)) (all-weaker _ _ _ (λ x p. (p .0, omega (arith, p .1))) (cell .0)),
+      all-append _ _ _ (all-weaker _ _ (λ x p. (p .0, omega (arith, p .1))) _ (before .1)) (all-weaker _ _ (λ x p. (p .0, omega (arith, p .1))) _ (cell .0)),
     )
 
-rows-rising : (rel : Between) (n m : ℕ) → Rising (upto (λ i. upto (λ j. listed (rel i j) i j) n) m) × All (λ t. t .one < m) (upto (λ i. upto (λ j. listed (rel i j) i j) n) m)
-unfolding upto
+rows-rising : (rel : Between) (n m : ℕ) → Rising (gather (λ i. gather (λ j. listed (rel i j) i j) n) m) × All (λ t. t .one < m) (gather (λ i. gather (λ j. listed (rel i j) i j) n) m)
 rows-rising rel n zero = (tt, tt)
 rows-rising rel n (suc m) =
     let before = rows-rising rel n m in
     let row = row-rising rel m n in (
       rising-append _ _ (before .0) (row .0) (all-cross _ _ _ _ (λ x y p q. grind (arith, tells)) (before .1) (row .1)),
-      all-append _ _ _ (all-weaker _ _ _ (λ x p. omega (arith, p)) (before .1)) (all-weaker _ _ _ (λ x p. omega (arith, p .0)) (row .1)),
+      all-append _ _ _ (all-weaker _ _ (λ x p. omega (arith, p)) _ (before .1)) (all-weaker _ _ (λ x p. omega (arith, p .0)) _ (row .1)),
     )
 
 -- the bytes of a tie in the file
@@ -83,10 +84,6 @@ drop-bytes : (ts : List Listed) (k : ℕ) → drop (3 * k) (joined bytes-of ts) 
 drop-bytes ts zero = refl
 drop-bytes [] (suc k) = let e : 3 * suc k ≡ suc (suc (suc (3 * k))) = omega arith in ap (λ m. drop m (joined bytes-of [])) e
 drop-bytes (t ∷ ts) (suc k) = let e : 3 * suc k ≡ suc (suc (suc (3 * k))) = omega arith in ap (λ m. drop m (joined bytes-of (t ∷ ts))) e ∙ drop-bytes ts k
-
-pub length-bytes : (ts : List Listed) → length (joined bytes-of ts) ≡ 3 * length ts
-length-bytes [] = refl
-length-bytes (t ∷ ts) = omega (arith, length-bytes ts)
 
 byte-at : (ts : List Listed) (k c : ℕ) → k < length ts → getD (joined bytes-of ts) (3 * k + c) 0 ≡ getD (bytes-of (getD ts k blank) ++ joined bytes-of (drop (k + 1) ts)) c 0
 byte-at ts k c h = sym (getD-drop (3 * k) (joined bytes-of ts) c 0) ∙ ap (λ l. getD l c 0) (drop-bytes ts k ∙ ap (joined bytes-of) (drop-more ts k blank h))
@@ -113,10 +110,10 @@ module _ (n : ℕ) (rel : Between) («mutual» : Mutual rel) (apart : Apart rel)
   all-ties = listing n rel
 
   all-good : All (Good n rel) all-ties
-  all-good = upto-all _ _ n (λ i hi. upto-all _ _ n (λ j hj. cell-good n rel i j (rel i j) hi hj refl))
+  all-good = gather-all _ _ n (λ i hi. gather-all _ _ n (λ j hj. cell-good n rel i j (rel i j) hi hj refl))
 
   good-at : (k : ℕ) → k < length all-ties → Good n rel (getD all-ties k blank)
-  good-at k h = all-at (Good n rel) all-ties k blank h all-good
+  good-at k h = all-getD (Good n rel) all-ties k blank h all-good
 
   not-itself : (t : Listed) → Good n rel t → t .one ≡ t .other → ⊥
   not-itself t g e =
@@ -228,8 +225,8 @@ module _ (n : ℕ) (rel : Between) («mutual» : Mutual rel) (apart : Apart rel)
   -- what is listed of a pair stands in the file
   in-file : (i j : ℕ) (t : Listed) → i < n → j < n → listed (rel i j) i j ≡ t ∷ [] → (k : ℕ) × (k < length all-ties) × (getD all-ties k blank ≡ t)
   in-file i j t hi hj e =
-      let cell = upto-at (λ j. listed (rel i j) i j) n j 0 blank hj (omega (arith, ap length e)) in
-      let row = upto-at (λ i. upto (λ j. listed (rel i j) i j) n) n i (cell .0) blank hi (cell .1) in
+      let cell = gather-at (λ j. listed (rel i j) i j) n j 0 blank hj (omega (arith, ap length e)) in
+      let row = gather-at (λ i. gather (λ j. listed (rel i j) i j) n) n i (cell .0) blank hi (cell .1) in
       (row .0, row .1, row .2 ∙ cell .2 ∙ ap (λ l. getD l 0 blank) e)
 
   paired-listed : (i j : ℕ) (t : Listed) → i < n → j < n → listed (rel i j) i j ≡ t ∷ [] → t .one ≡ i → t .other ≡ j → (a b : ℕ) → same-pair i j a b ≡ true → paired file a b (length all-ties) ≡ true

@@ -1,9 +1,6 @@
 mod Causes
-mod Joins
 mod Progress
-mod Upto
 mod Decoded
 mod Encoded
-mod Written
 mod Answered
 mod Back

@@ -1,38 +1,34 @@
 -- What holds after the first k ties of a file are read. Assumes nothing.
-use mathlib.Core.Path.{_≡_, refl, sym, ap, _∙_, subst, fun-ext}
+use mathlib.Core.Path.{_≡_, refl, sym, ap, _∙_, subst}
 use mathlib.Core.Bool.{Bool, true, false, cond, _&&_, _||_, not}
-use mathlib.Core.List.{List, [], _∷_}
-use mathlib.Core.Logic.{_⊎_, inl, inr, ⊎-elim}
-use Prim.Native.Nat.{ℕ, zero, suc, _+_, _*_, _<_, _≤_}
+use mathlib.Core.List.{List}
+use mathlib.Core.Logic.{_⊎_, ⊎-elim}
+use Prim.Native.Nat.{ℕ, zero, suc, _+_, _*_}
 use native.Mathlib.Numerals.{add-one}
 use native.Mathlib.Omega.{arith}
-use lib.Dec.{eqb, ltb, leb}
-use lib.ListN.{length, getD}
-use Rattle.std.specs.shelf.Lists.{All}
+use lib.Dec.{eqb, ltb}
+use lib.ListN.{getD}
 use Rattle.std.specs.Orderings.{When}
 use Rattle.std.specs.declared.option.Option.{Option}
 use Rattle.std.specs.declared.option.Option.the-variants.{Some, None}
 use Rattle.std.proofs.shelf.Ways.{tells, when-true}
 use Rattle.std.proofs.shelf.Tests.{cases-lt}
+use Rattle.relations.proofs.Firsts.{none-of}
 use Rattle.wire.specs.Reading.{input, place}
 use Rattle.wire.specs.declared.reader.Reader.{Reader}
-use Rattle.relations.specs.Between.{Between, opposite, with-pair}
+use Rattle.relations.specs.Between.{Between, opposite, related, with-pair}
 use Rattle.relations.specs.Table.{count, rel}
 use Rattle.relations.specs.declared.matrix.Matrix.{Matrix}
 use Rattle.relations.specs.declared.relation.Relation.{Relation}
-use Rattle.relations.specs.declared.relation.Relation.the-variants.{Unrelated, Customer, Peer, Provider}
-use Rattle.ties.specs.declared.refusal.Cause.{Cause}
-use Rattle.ties.specs.declared.refusal.Cause.the-variants.{UnknownKind, Cut, Surplus, NoSuchNetwork, BadCount, NotRising, SamePair, PeersTurned, Itself, TooMany}
+use Rattle.relations.specs.declared.relation.Relation.the-variants.{Unrelated, Peer, Provider}
+use Rattle.refusals.specs.declared.refusal.Cause.{Cause}
+use Rattle.refusals.specs.declared.refusal.Cause.the-variants.{UnknownKind, Cut, Surplus, NoSuchNetwork, BadCount, NotRising, SamePair, PeersTurned, Itself, TooMany}
 use Rattle.ties.specs.declared.tie.Tie.{Tie}
-use Rattle.ties.specs.File.{networks, ties, first, second, kind, meant, after}
-use Rattle.ties.specs.Faults.{causes, first-of, told, rises, tie-at-has, tie-has, same-pair, paired, comes-after, CleanTies}
-use Rattle.ties.specs.Steps.{ordered, is-related, tie-told}
+use Rattle.ties.specs.File.{networks, first, second, kind, meant, after}
+use Rattle.ties.specs.Faults.{causes, told, rises, tie-at-has, tie-has, same-pair, paired, comes-after, CleanTies}
+use Rattle.ties.specs.Steps.{ordered, tie-told}
 
 -- where nothing is told, a thing has no fault
-none-of : (has : Cause → Bool) (cs : List Cause) → first-of has cs ≡ None → All (λ c. has c ≡ false) cs
-none-of has [] e = tt
-none-of has (c ∷ cs) e = let h : (has c ≡ false) × (first-of has cs ≡ None) = grind (arith, tells) in (h .0, none-of has cs (h .1))
-
 pub none-has : (has : Cause → Bool) → told has ≡ None → (c : Cause) → has c ≡ false
 none-has has e UnknownKind = none-of has causes e .0
 none-has has e Cut = none-of has causes e .1 .0
@@ -45,13 +41,13 @@ none-has has e PeersTurned = none-of has causes e .1 .1 .1 .1 .1 .1 .1 .0
 none-has has e Itself = none-of has causes e .1 .1 .1 .1 .1 .1 .1 .1 .0
 none-has has e TooMany = none-of has causes e .1 .1 .1 .1 .1 .1 .1 .1 .1 .0
 
-meant-related : (k : ℕ) → (is-related (meant k) ≡ true) × (is-related (opposite (meant k)) ≡ true)
-meant-related k = elim (eqb k 1) as (λ b. (is-related (cond b Provider Peer) ≡ true) × (is-related (opposite (cond b Provider Peer)) ≡ true)) [ true ↦ (refl, refl) | false ↦ (refl, refl) ]
+meant-related : (k : ℕ) → (related (meant k) ≡ true) × (related (opposite (meant k)) ≡ true)
+meant-related k = elim (eqb k 1) as (λ b. (related (cond b Provider Peer) ≡ true) × (related (opposite (cond b Provider Peer)) ≡ true)) [ true ↦ (refl, refl) | false ↦ (refl, refl) ]
 
-pair-related : (r : Between) (i j : ℕ) (x : Relation) (a b : ℕ) → is-related x ≡ true → is-related (opposite x) ≡ true → is-related (with-pair r i j x a b) ≡ (same-pair i j a b || is-related (r a b))
+pair-related : (r : Between) (i j : ℕ) (x : Relation) (a b : ℕ) → related x ≡ true → related (opposite x) ≡ true → related (with-pair r i j x a b) ≡ (same-pair i j a b || related (r a b))
 pair-related r i j x a b p q = grind (arith, tells)
 
-pub related-paired : (bs : List ℕ) (a b k : ℕ) → is-related (after bs k a b) ≡ paired bs a b k
+pub related-paired : (bs : List ℕ) (a b k : ℕ) → related (after bs k a b) ≡ paired bs a b k
 unfolding after paired
 related-paired bs a b zero = refl
 related-paired bs a b (suc k) =
@@ -75,7 +71,7 @@ module _ {bs : List ℕ} {k : ℕ} {r : Reader} {m : Matrix} {last : Option Tie}
   pub told-next : tie-told (input r) (place r) m last ≡ told (tie-has bs k)
   told-next =
       (λ i. tie-told (s .source i) (s .at i) m last) ∙
-      (λ i. told (tie-at-has (s .size i) bs (4 + 3 * k) (s .order (first bs k) (second bs k) i) (is-related (s .says (first bs k) (second bs k) i)))) ∙
+      (λ i. told (tie-at-has (s .size i) bs (4 + 3 * k) (s .order (first bs k) (second bs k) i) (related (s .says (first bs k) (second bs k) i)))) ∙
       ap (λ t. told (tie-at-has (networks bs) bs (4 + 3 * k) (comes-after bs k (first bs k) (second bs k)) t)) (related-paired bs (first bs k) (second bs k) k)
 
   pub sofar-more : (r′ : Reader) (m′ : Matrix) (t : Tie) (b : Bool) → tie-told (input r) (place r) m last ≡ None → input r′ ≡ input r → place r′ ≡ place r + 3 → t .first ≡ getD (input r) (place r) 0 → t .second ≡ getD (input r) (place r + 1) 0 → t .relation ≡ meant (getD (input r) (place r + 2) 0) → count m′ ≡ count m → b ≡ (ltb (t .first) (count m) && ltb (t .second) (count m) && not (eqb (t .first) (t .second))) → When b ((i j : ℕ) → rel m′ i j ≡ with-pair (rel m) (t .first) (t .second) (t .relation) i j) (m′ ≡ m) → Sofar bs (k + 1) r′ m′ (Some t)

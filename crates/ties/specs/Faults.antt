@@ -1,40 +1,24 @@
 -- Which faults a thing of a ties file has, and which of them is told. Assumes nothing.
 use mathlib.Core.Path.{_≡_}
-use mathlib.Core.Bool.{Bool, true, false, cond, _&&_, _||_, not}
+use mathlib.Core.Bool.{Bool, true, false, _&&_, _||_, not}
 use mathlib.Core.List.{List, [], _∷_}
 use Prim.Native.Nat.{ℕ, zero, suc, _+_, _*_, _<_}
 use lib.Dec.{eqb, ltb, leb}
 use lib.ListN.{length, getD}
 use Rattle.std.specs.declared.option.Option.{Option}
 use Rattle.std.specs.declared.option.Option.the-variants.{Some, None}
-use Rattle.ties.specs.declared.refusal.Cause.{Cause}
-use Rattle.ties.specs.declared.refusal.Cause.the-variants.{UnknownKind, Cut, Surplus, NoSuchNetwork, BadCount, NotRising, SamePair, PeersTurned, Itself, TooMany}
-use Rattle.ties.specs.declared.refusal.Place.{Place}
-use Rattle.ties.specs.declared.refusal.Place.the-variants.{Head, Tie, End}
+use Rattle.relations.specs.Lists.{first-of}
+use Rattle.refusals.specs.declared.refusal.Cause.{Cause}
+use Rattle.refusals.specs.declared.refusal.Cause.the-variants.{UnknownKind, Cut, Surplus, NoSuchNetwork, BadCount, NotRising, SamePair, PeersTurned, Itself, TooMany}
+use Rattle.refusals.specs.declared.refusal.Place.{Place}
+use Rattle.refusals.specs.declared.refusal.Place.the-variants.{Head, Tie, End}
 use Rattle.ties.specs.File.{networks, ties, first, second}
-
--- the number of a fault
-abbrev pub number : Cause → ℕ
-number UnknownKind = 1
-number Cut = 1
-number Surplus = 1
-number NoSuchNetwork = 2
-number BadCount = 2
-number NotRising = 3
-number SamePair = 3
-number PeersTurned = 3
-number Itself = 3
-number TooMany = 11
 
 -- all causes, in the order in which they are told: by number, and those of one number as listed
 abbrev pub causes : List Cause
 causes = UnknownKind ∷ Cut ∷ Surplus ∷ NoSuchNetwork ∷ BadCount ∷ NotRising ∷ SamePair ∷ PeersTurned ∷ Itself ∷ TooMany ∷ []
 
 -- the first of the causes that a thing has
-abbrev pub first-of : (Cause → Bool) → List Cause → Option Cause
-first-of has [] = None
-first-of has (c ∷ cs) = cond (has c) (Some c) (first-of has cs)
-
 abbrev pub told : (Cause → Bool) → Option Cause
 told has = first-of has causes
 

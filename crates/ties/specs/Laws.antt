@@ -1,20 +1,18 @@
 -- Reading and writing a ties file undo each other. Assumes nothing.
 use mathlib.Core.Path.{_≡_}
 use mathlib.Core.List.{List}
-use mathlib.Core.Logic.{_⊎_}
 use Prim.Native.Nat.{ℕ, _<_, _≤_}
 use lib.ListN.{getD}
 use Rattle.std.specs.declared.result.Result.{Result}
 use Rattle.std.specs.declared.result.Result.the-variants.{Ok, Err}
 use Rattle.relations.specs.Between.{Between, Mutual, Apart, Within}
-use Rattle.relations.specs.Cycle.{NoCycle}
 use Rattle.relations.specs.Sound.{networks as networks-of, relation as relation-of}
 use Rattle.relations.specs.declared.sound.Relations.{Relations}
-use Rattle.ties.specs.declared.refusal.Refusal.{Refusal}
-use Rattle.ties.specs.declared.refusal.Refusal.the-variants.{Memory}
+use Rattle.refusals.specs.declared.refusal.Refusal.{Refusal}
+use Rattle.refusals.specs.declared.refusal.Refusal.the-variants.{Memory}
 use Rattle.ties.specs.File.{networks, ties, after}
 use Rattle.ties.specs.Faults.{Faultless}
-use Rattle.ties.specs.Encoding.{encoding}
+use Rattle.listing.specs.Encoding.{encoding}
 use Rattle.ties.specs.Outcome.{Read}
 
 -- relations between n networks in which both ends say the same

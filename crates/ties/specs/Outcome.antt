@@ -10,13 +10,13 @@ use Rattle.relations.specs.Cycle.{First}
 use Rattle.relations.specs.Sound.{networks as networks-of, relation as relation-of}
 use Rattle.relations.specs.declared.matrix.Matrix.{Matrix}
 use Rattle.relations.specs.declared.sound.Relations.{Relations}
-use Rattle.ties.specs.declared.refusal.Cause.{Cause}
-use Rattle.ties.specs.declared.refusal.Place.{Place}
-use Rattle.ties.specs.declared.refusal.Place.the-variants.{Head, Tie, End}
-use Rattle.ties.specs.declared.refusal.Refusal.{Refusal}
-use Rattle.ties.specs.declared.refusal.Refusal.the-variants.{Fault, Cycle, Memory}
+use Rattle.refusals.specs.declared.refusal.Cause.{Cause}
+use Rattle.refusals.specs.declared.refusal.Place.{Place}
+use Rattle.refusals.specs.declared.refusal.Place.the-variants.{Head, Tie, End}
+use Rattle.refusals.specs.declared.refusal.Refusal.{Refusal}
+use Rattle.refusals.specs.declared.refusal.Refusal.the-variants.{Fault, Cycle, Memory}
 use Rattle.ties.specs.File.{networks, ties, after}
-use Rattle.ties.specs.Encoding.{encoding}
+use Rattle.listing.specs.Encoding.{encoding}
 use Rattle.ties.specs.Faults.{CleanTies, TieFault, Faultless, FirstFault}
 
 abbrev pub AtPlace : List ℕ → Place → Cause → Type 0

@@ -6,13 +6,14 @@ use lib.Dec.{eqb, ltb, leb}
 use lib.ListN.{getD}
 use Rattle.std.specs.declared.option.Option.{Option}
 use Rattle.std.specs.declared.option.Option.the-variants.{Some, None}
+use Rattle.relations.specs.Between.{related}
 use Rattle.relations.specs.declared.relation.Relation.{Relation}
 use Rattle.relations.specs.declared.relation.Relation.the-variants.{Unrelated, Customer, Peer, Provider}
 use Rattle.ties.specs.declared.tie.Tie.{Tie}
 use Rattle.relations.specs.Table.{count, rel}
 use Rattle.relations.specs.declared.matrix.Matrix.{Matrix}
-use Rattle.ties.specs.declared.refusal.Cause.{Cause}
-use Rattle.ties.specs.declared.refusal.Cause.the-variants.{UnknownKind, Cut, Surplus, NoSuchNetwork, BadCount, NotRising, SamePair, PeersTurned, Itself, TooMany}
+use Rattle.refusals.specs.declared.refusal.Cause.{Cause}
+use Rattle.refusals.specs.declared.refusal.Cause.the-variants.{UnknownKind, Cut, Surplus, NoSuchNetwork, BadCount, NotRising, SamePair, PeersTurned, Itself, TooMany}
 use Rattle.ties.specs.Faults.{rises, told, tie-at-has}
 
 -- the pair a, b comes after the last tie, if there is one
@@ -20,18 +21,12 @@ abbrev pub ordered : Option Tie → ℕ → ℕ → Bool
 ordered None a b = true
 ordered (Some t) a b = rises (t .first) (t .second) a b
 
-abbrev pub is-related : Relation → Bool
-is-related Unrelated = false
-is-related Customer = true
-is-related Peer = true
-is-related Provider = true
-
 -- what is told of the tie at place p, after those of a table, of which the last is given
 abbrev pub tie-told : List ℕ → ℕ → Matrix → Option Tie → Option Cause
 tie-told bs p m last =
     let a : ℕ = getD bs p 0 in
     let b : ℕ = getD bs (p + 1) 0 in
-    told (tie-at-has (count m) bs p (ordered last a b) (is-related (rel m a b)))
+    told (tie-at-has (count m) bs p (ordered last a b) (related (rel m a b)))
 
 abbrev pub is-peer : Relation → Bool
 is-peer Unrelated = false

@@ -5,15 +5,16 @@ ghost use Rattle.wire.specs.Reading.{input, place};
 ghost use Rattle.ties.specs.File.{networks as networks-in, ties as ties-in};
 ghost use Rattle.ties.specs.Outcome.{Read, TiesRead};
 ghost use Rattle.std.specs.Vec.{made};
-use crate::refusal::Cause;
-use crate::refusal::Place;
-use crate::refusal::Refusal;
-use crate::refusal::RefusalFromAlloc;
 use crate::tie::Head;
 use crate::tie::Tie;
+use cycles::Unsound;
+use cycles::sound;
+use refusals::Cause;
+use refusals::Place;
+use refusals::Refusal;
+use refusals::RefusalFromAlloc;
 use relations::Matrix;
 use relations::Relations;
-use relations::Unsound;
 use std::alloc::Global;
 use wire::Reader;
 
@@ -63,7 +64,7 @@ pub fn read(bytes: &[u8], most: u8, heap: Global) -> Result<Relations, Refusal>
             cause: Cause::Surplus,
         });
     }
-    match matrix.sound(heap) {
+    match sound(matrix, heap) {
         Ok(relations) => Ok(relations),
         Err(Unsound::Cycle(ring)) => Err(Refusal::Cycle(ring)),
         Err(Unsound::Memory) => Err(Refusal::Memory),

@@ -5,19 +5,18 @@ ghost use lib.ListN.{getD};
 ghost use Rattle.std.specs.Results.{Cases};
 ghost use Rattle.std.specs.declared.option.Option.the-variants.{Some, None};
 ghost use Rattle.wire.specs.Reading.{input, place};
+ghost use Rattle.relations.specs.Between.{related};
 ghost use Rattle.relations.specs.Table.{count, rel};
 ghost use Rattle.ties.specs.File.{networks as networks-in, ties as ties-in, meant};
 ghost use Rattle.ties.specs.Faults.{told, head-has, rises};
-ghost use Rattle.ties.specs.Steps.{ordered, is-related, tie-told, pair-has};
-use crate::refusal::Cause;
+ghost use Rattle.ties.specs.Steps.{ordered, tie-told, pair-has};
+use listing::TIES;
+use refusals::Cause;
 use relations::MOST;
 use relations::Matrix;
 use relations::Relation;
 use relations::RelationPartialEq;
 use wire::Reader;
-
-// The first byte of a ties file.
-pub const TIES: u8 = 16;
 
 // How many networks there are, and how many ties follow.
 #[derive(Clone, Copy)]
@@ -100,7 +99,7 @@ impl Tie {
 
     // What is wrong with the tie, after those that `matrix` has, of which `last` was the last.
     fn fault(self, matrix: &Matrix, last: Option<Tie>) -> Option<Cause>
-        ensures { λ r. ⌜ r ≡ told (pair-has (count (now (matrix .entry))) self (ordered last (self .first) (self .second)) (is-related (rel (now (matrix .entry)) (self .first) (self .second)))) ⌝ }
+        ensures { λ r. ⌜ r ≡ told (pair-has (count (now (matrix .entry))) self (ordered last (self .first) (self .second)) (related (rel (now (matrix .entry)) (self .first) (self .second)))) ⌝ }
     {
         let networks = matrix.networks();
         if self.first >= networks || self.second >= networks {

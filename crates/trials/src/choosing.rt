@@ -1,4 +1,5 @@
 // What a network goes by, of what its neighbours told.
+use cycles::sound;
 use relations::Matrix;
 use relations::Relation;
 use relations::Relations;
@@ -15,57 +16,62 @@ fn sixth(rt: LibcRuntime) -> Result<Relations, Fail> {
     matrix.relate(4, 1, Relation::Customer);
     matrix.relate(4, 2, Relation::Peer);
     matrix.relate(4, 3, Relation::Provider);
-    match matrix.sound(rt.alloc()) {
-        Ok(relations) => Ok(relations),
-        Err(_) => Err(Fail::new("not sound")),
-    }
+    Ok(sound(matrix, rt.alloc()).ok().ok_or("a cycle")?)
 }
 
-fn told(rt: LibcRuntime, paths: &[(u8, &[u8])]) -> Result<PathTable, AllocError> {
+// The paths that neighbours told: each begins with the neighbour.
+fn told(rt: LibcRuntime, paths: &[&[u8]]) -> Result<PathTable, AllocError> {
     let mut table = PathTable::new(rt.alloc(), 1)?;
-    for (neighbour, path) in paths {
-        table.set(0, *neighbour, *path);
+    for path in paths {
+        if let Some(neighbour) = path.first() {
+            table.set(0, *neighbour, *path);
+        }
     }
     Ok(table)
 }
 
-// The neighbour that network 4 goes by, with the links to 0, 1, 2 and 3 as in `up`.
-fn chosen(rt: LibcRuntime, up: &[bool], paths: &[(u8, &[u8])]) -> Result<Option<u8>, Fail> {
+// The neighbour that is gone by.
+fn neighbour(route: Route) -> Option<u8> {
+    match route {
+        Route::Via { neighbour, path: _ } => Some(neighbour),
+        _ => None,
+    }
+}
+
+// The neighbour that network 4 goes by, with the link to 0 as in `up` and those to 1, 2 and 3 up.
+fn chosen(rt: LibcRuntime, up: bool, paths: &[&[u8]]) -> Result<Option<u8>, Fail> {
     let relations = sixth(rt)?;
     let table = told(rt, paths)?;
-    match select(&relations, up, &table, 4, 0, 5) {
-        Route::Via { neighbour, path: _ } => Ok(Some(neighbour)),
-        Route::Nothing => Ok(None),
-        Route::Local => Err(Fail::new("not the home")),
-    }
+    Ok(neighbour(select(&relations, &[up, true, true, true], &table, 4, 0, 5)))
 }
 
 #[test]
 fn the_order_of_choosing(rt: LibcRuntime) -> Result<(), Fail> {
-    let up = [true, true, true, true];
-    let longer: &[u8] = &[0, 3, 5];
-    let short: &[u8] = &[2, 5];
-    check_eq(chosen(rt, &up, &[(0, longer), (2, short)])?, Some(0)).note(
-        "a customer's longer path",
-    )?;
-    check_eq(chosen(rt, &up, &[(0, longer), (1, &[1, 5])])?, Some(1)).note("the shorter path")?;
-    check_eq(chosen(rt, &up, &[(0, &[0, 5]), (1, &[1, 5])])?, Some(0)).note("the lower number")?;
-    check_eq(chosen(rt, &up, &[(3, &[3, 5]), (2, short)])?, Some(2)).note(
-        "a peer before a provider",
-    )?;
-    check_eq(chosen(rt, &up, &[(0, &[0, 4, 5]), (3, &[3, 5])])?, Some(3)).note(
-        "its own path passed over",
-    )?;
-    check_eq(
-        chosen(rt, &[false, true, true, true], &[(0, longer), (2, short)])?,
-        Some(2),
-    ).note("a link that is down")?;
-    check_eq(chosen(rt, &up, &[])?, None).note("nothing told")
+    let cases: [(bool, &[&[u8]], Option<u8>); 7] = [
+        // a customer's longer path
+        (true, &[&[0, 3, 5], &[2, 5]], Some(0)),
+        // the shorter path
+        (true, &[&[0, 3, 5], &[1, 5]], Some(1)),
+        // the lower number
+        (true, &[&[0, 5], &[1, 5]], Some(0)),
+        // a peer before a provider
+        (true, &[&[3, 5], &[2, 5]], Some(2)),
+        // its own path passed over
+        (true, &[&[0, 4, 5], &[3, 5]], Some(3)),
+        // a link that is down
+        (false, &[&[0, 3, 5], &[2, 5]], Some(2)),
+        // nothing told
+        (true, &[], None),
+    ];
+    for (up, paths, by) in cases {
+        check_eq(chosen(rt, up, paths)?, by)?;
+    }
+    Ok(())
 }
 
 #[test]
 fn the_home(rt: LibcRuntime) -> Result<(), Fail> {
     let relations = sixth(rt)?;
-    let table = told(rt, &[(0, &[0, 5])])?;
+    let table = told(rt, &[&[0, 5]])?;
     check(matches!(select(&relations, &[true], &table, 4, 0, 4), Route::Local))
 }

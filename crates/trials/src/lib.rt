@@ -1,12 +1,10 @@
-// Examples of what the libraries do, each proved to end and then run.
+// Examples of what the libraries below the router do, each proved to end and then run.
 #[cfg(test)]
 mod choosing;
 #[cfg(test)]
-mod cycles;
-#[cfg(test)]
 mod files;
 #[cfg(test)]
-mod routing;
+mod rings;
 #[cfg(test)]
 mod tables;
 #[cfg(test)]

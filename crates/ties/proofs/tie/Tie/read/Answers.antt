@@ -1,12 +1,12 @@
 -- A tie that is whole and of a known kind has the fault that `fault` finds.
-use mathlib.Core.Path.{_≡_, sym, ap, _∙_}
+use mathlib.Core.Path.{_≡_, sym, _∙_}
 use mathlib.Core.Logic.{inl, inr}
 use Prim.Native.Nat.{_+_, _<_}
-use native.Mathlib.Omega.{arith}
 use lib.ListN.{length, getD}
 use borrow.Author.Needs.{needs}
+use Rattle.relations.specs.Between.{related}
 use Rattle.relations.specs.Table.{count, rel}
-use Rattle.ties.specs.Steps.{ordered, is-related}
+use Rattle.ties.specs.Steps.{ordered}
 use Rattle.wire.specs.Reading.{input, place}
 use Rattle.ties.proofs.Causes.{Kinds, told-tie}
 use Rattle.ties.proofs.tie.Tie.read.Needs as need
@@ -24,5 +24,5 @@ returns-in-Some-fault c =
     let m = c .args .matrix .now in
     record {
       source = search needs;
-      cases = told-tie (count m) bs p (record { first = c .in-Some .first; second = c .in-Some-byte .second; relation = c .match-kind .relation }) (ordered (c .args .last)) (λ a b. is-related (rel m a b)) whole one other kinds ∙ sym (c .fault .ensures) ∙ c .in-Some-fault .is;
+      cases = told-tie (count m) bs p (record { first = c .in-Some .first; second = c .in-Some-byte .second; relation = c .match-kind .relation }) (ordered (c .args .last)) (λ a b. related (rel m a b)) whole one other kinds ∙ sym (c .fault .ensures) ∙ c .in-Some-fault .is;
     }
