@@ -1,4 +1,3 @@
-pub mod Gathered
 pub mod Posted
 pub mod Mailed
 pub mod Stepping

@@ -23,7 +23,7 @@ use Rattle.links.specs.declared.fault.Turned.the-variants as Turned
 use Rattle.links.proofs.Receiving.{there}
 use Rattle.mail.specs.Posting.{told-all, told-by, whom}
 use Rattle.mail.specs.Posts.{Post, addressed, mail, mailing}
-use Rattle.mail.proofs.Gathered.{gather-none, gather-one, gather-same}
+use Rattle.relations.proofs.Gathered.{gather-none, gather-one, gather-same}
 
 pub map-gather : {X Y : Type 0} (f : X → Y) (g : ℕ → List X) (m : ℕ) → map f (gather g m) ≡ gather (λ k. map f (g k)) m
 map-gather f g zero = refl

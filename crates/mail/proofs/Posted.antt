@@ -20,7 +20,7 @@ use Rattle.links.specs.Local.{Said, Update, gather}
 use Rattle.mail.specs.declared.letter.Letter.{Letter}
 use Rattle.mail.specs.Posting.{Oldest, blank, whom}
 use Rattle.mail.specs.Posts.{Post, addressed, between, cut, goes, meant, posts}
-use Rattle.mail.proofs.Gathered.{gather-more}
+use Rattle.relations.proofs.Gathered.{gather-more}
 
 with-tail : {X : Type 0} (b : Bool) (x : X) (ys zs : List X) → cond b (x ∷ (ys ++ zs)) (ys ++ zs) ≡ cond b (x ∷ ys) ys ++ zs
 with-tail true x ys zs = refl

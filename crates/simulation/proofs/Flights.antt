@@ -21,7 +21,7 @@ use Rattle.links.specs.World.{World}
 use Rattle.links.specs.declared.fault.Fault.{Fault}
 use Rattle.convergence.proofs.Places.{crosses, emptied, queued-is}
 use Rattle.mail.specs.Posts.{Post, between, cut, flying, goes, mail}
-use Rattle.mail.proofs.Gathered.{gather-none, gather-one, gather-same}
+use Rattle.relations.proofs.Gathered.{gather-none, gather-one, gather-same}
 use Rattle.mail.proofs.Mailed.{mail-outbox, one}
 use Rattle.mail.proofs.Posted.{Front, between-append}
 

@@ -5,7 +5,7 @@ use Rattle.std.specs.Of.Vec.{vec-items}
 use Rattle.selection.specs.Paths.{row}
 use Rattle.mail.specs.Posting.{told-by}
 use Rattle.mail.specs.Posts.{mailing, posts}
-use Rattle.mail.proofs.Gathered.{gather-none}
+use Rattle.relations.proofs.Gathered.{gather-none}
 use Rattle.mail.proofs.network.stepping.send_heard.Needs as need
 
 pub returns-in-rest : need.returns-in-rest
