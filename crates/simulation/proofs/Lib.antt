@@ -5,3 +5,4 @@ mod Stepping
 mod Flights
 mod Counting
 mod Wholes
+mod Readings

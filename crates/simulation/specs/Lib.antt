@@ -3,3 +3,4 @@ pub mod Whole
 pub mod Posting
 pub mod Steps
 pub mod Simulated
+pub mod Shown

@@ -4,6 +4,7 @@ mod letter;
 mod network;
 mod posting;
 mod simulation;
+mod wording;
 
 pub use cause::Cause;
 pub use cause::CauseDebug;

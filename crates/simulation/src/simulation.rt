@@ -14,6 +14,7 @@ use crate::network::Network;
 use relations::Relations;
 
 mod hearing;
+mod reading;
 mod turning;
 
 // The networks stand in the order of their numbers; the letters, what is in flight, in the order in which they were sent.
