@@ -6,3 +6,4 @@ mod Flights
 mod Counting
 mod Wholes
 mod Readings
+mod Reaching

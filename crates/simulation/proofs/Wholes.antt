@@ -107,3 +107,6 @@ module _ (r : Relations) (homes : List ℕ) (xs : List Network) (ls : List Lette
 
     pub heard-within : inside (networks r) (posts ls) ≡ true → inside (networks r) (posts after) ≡ true
     heard-within h = ap (inside (networks r)) all-letters ∙ inside-append (networks r) rest (mail j (outbox-on-hearing w j i u (local-at xs j))) (inside-without (networks r) k (posts ls) h) (inside-mail w j (only (u .block)) (replaced i u (local-at xs j)) (hearing-fault w j (local-at xs j) i u) hj)
+
+pub heard-some : (i j k : ℕ) (u : Update) (ls : List Letter) → Oldest i j k u (posts ls) → 0 < length (flying (posts ls) i j)
+heard-some i j k u ls old = let e = ap (λ us. length (map update us)) (lost-one i j k u (posts ls) old) in omega (arith, e)

@@ -1,0 +1,27 @@
+-- Each step leads to a state of a run. Assumes nothing.
+use mathlib.Core.Path.{_≡_, refl, sym, ap, _∙_, subst}
+use mathlib.Core.Bool.{true, _&&_}
+use mathlib.Core.List.{List, [], _∷_}
+use Prim.Native.Nat.{ℕ, _<_}
+use native.Mathlib.Omega.{arith}
+use lib.Dec.{ltb}
+use lib.ListN.{length}
+use Rattle.std.proofs.shelf.Tests.{and-parts, ltb-true}
+use Rattle.links.specs.Run.{Item, Move, Reach, State, hears, move}
+use Rattle.links.specs.World.{World}
+use Rattle.simulation.specs.Steps.{both, first-heard, hearing}
+use Rattle.simulation.specs.Whole.{nowhere}
+
+-- hearing where something is in flight is a move
+pub heard-move : (w : World) (i j : ℕ) (s : State) → both w i j ≡ true → 0 < length (s .flight i j) → Move w nowhere s (hearing w i j s)
+heard-move w i j s h some = by-first (s .flight i j) refl some
+  where
+    below : (i < w .n) × (j < w .n)
+    below = let p = and-parts (ltb i (w .n)) (ltb j (w .n)) h in (ltb-true i (w .n) (p .0), ltb-true j (w .n) (p .1))
+
+    by-first : (q : List Item) → s .flight i j ≡ q → 0 < length q → Move w nowhere s (first-heard w i j q s)
+    by-first [] e l = absurd (omega arith)
+    by-first (x ∷ rest) e l = hears s i j x rest (below .0) (below .1) e
+
+pub heard-reach : (w : World) (i j : ℕ) (s : State) → both w i j ≡ true → 0 < length (s .flight i j) → Reach w nowhere s → Reach w nowhere (hearing w i j s)
+heard-reach w i j s h some r = move r (heard-move w i j s h some)
