@@ -7,3 +7,4 @@ mod Counting
 mod Wholes
 mod Readings
 mod Reaching
+mod Fresh

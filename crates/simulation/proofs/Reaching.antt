@@ -1,13 +1,15 @@
 -- Each step leads to a state of a run. Assumes nothing.
 use mathlib.Core.Path.{_≡_, refl, sym, ap, _∙_, subst}
-use mathlib.Core.Bool.{true, _&&_}
+use mathlib.Core.Bool.{Bool, true, _&&_, true≢false}
 use mathlib.Core.List.{List, [], _∷_}
 use Prim.Native.Nat.{ℕ, _<_}
 use native.Mathlib.Omega.{arith}
 use lib.Dec.{ltb}
 use lib.ListN.{length}
 use Rattle.std.proofs.shelf.Tests.{and-parts, ltb-true}
-use Rattle.links.specs.Run.{Item, Move, Reach, State, hears, move}
+use Rattle.relations.specs.declared.relation.Relation.the-variants.{Unrelated}
+use Rattle.selection.specs.Choosing.{related}
+use Rattle.links.specs.Run.{Item, Move, Reach, State, change, hears, move, turned, turns}
 use Rattle.links.specs.World.{World}
 use Rattle.simulation.specs.Steps.{both, first-heard, hearing}
 use Rattle.simulation.specs.Whole.{nowhere}
@@ -25,3 +27,9 @@ heard-move w i j s h some = by-first (s .flight i j) refl some
 
 pub heard-reach : (w : World) (i j : ℕ) (s : State) → both w i j ≡ true → 0 < length (s .flight i j) → Reach w nowhere s → Reach w nowhere (hearing w i j s)
 heard-reach w i j s h some r = move r (heard-move w i j s h some)
+
+-- a link of two related networks that turns is a change
+pub turned-reach : (w : World) (i j : ℕ) (up : Bool) (s : State) → w .rel i i ≡ Unrelated → both w i j ≡ true → related (w .rel i j) ≡ true → Reach w nowhere s → Reach w nowhere (turned w i j up s)
+turned-reach w i j up s apart h tied r =
+    let p = and-parts (ltb i (w .n)) (ltb j (w .n)) h in
+    change r (turns s i j up (ltb-true i (w .n) (p .0)) (ltb-true j (w .n) (p .1)) (λ e. true≢false (sym tied ∙ ap (λ k. related (w .rel i k)) (sym e) ∙ ap related apart)) tied)

@@ -6,7 +6,7 @@ use mathlib.Core.Logic.{⊎-elim}
 use Prim.Native.Nat.{ℕ, zero, suc, _+_, _<_}
 use native.Mathlib.Omega.{arith}
 use lib.Dec.{eqb, ltb}
-use lib.ListN.{length, getD, set, take, drop, length-map}
+use lib.ListN.{length, getD, set, take, drop, length-map, length-set}
 use lib.Seq.{map-set}
 use Rattle.std.specs.Of.Vec.{vec-items}
 use Rattle.std.proofs.shelf.Lists.{drop-map, getD-map, getD-set-other, getD-set-same, map-append, take-map}
@@ -110,3 +110,40 @@ module _ (r : Relations) (homes : List ℕ) (xs : List Network) (ls : List Lette
 
 pub heard-some : (i j k : ℕ) (u : Update) (ls : List Letter) → Oldest i j k u (posts ls) → 0 < length (flying (posts ls) i j)
 heard-some i j k u ls old = let e = ap (λ us. length (map update us)) (lost-one i j k u (posts ls) old) in omega (arith, e)
+
+module _ (r : Relations) (homes : List ℕ) (xs : List Network) (ls : List Letter) where
+  -- the link of i and j turned: x, which is number i, stepped, and then z, which is number j
+  module _ (i j : ℕ) (up : Bool) (x x′ z z′ : Network) (left between after : List Letter) (hi : i < networks r) (hj : j < networks r) (li : i < length xs) (lj : j < length xs) (ei : x ≡ getD xs i x) (ej : z ≡ getD xs j z) (ni : number-of x ≡ i) (nj : number-of z ≡ j) (si : homes-of x ≡ homes) (sj : homes-of z ≡ homes) (cut-out : posts left ≡ cut i j (posts ls)) (one : Stepped x (after-turning (ground-of r x) (number-of x) j up (local x)) (outbox-on-turning (ground-of r x) (number-of x) j up (local x)) left between x′) (other : Stepped z (after-turning (ground-of r z) (number-of z) i up (local z)) (outbox-on-turning (ground-of r z) (number-of z) i up (local z)) between after z′) where
+    abbrev v : World
+    v = ground r homes
+
+    one-holds : local x′ ≡ after-turning v i j up (local-at xs i)
+    one-holds = one .holds ∙ (λ t. after-turning (ground r (si t)) (ni t) j up (local-here xs i x li ei t))
+
+    other-holds : local z′ ≡ after-turning v j i up (local-at xs j)
+    other-holds = other .holds ∙ (λ t. after-turning (ground r (sj t)) (nj t) i up (local-here xs j z lj ej t))
+
+    sent-both : posts after ≡ (cut i j (posts ls) ++ mail i (outbox-on-turning v i j up (local-at xs i))) ++ mail j (outbox-on-turning v j i up (local-at xs j))
+    sent-both =
+        other .letters ∙
+        (λ t. (one .letters ∙ (λ q. cut-out q ++ mail (ni q) (outbox-on-turning (ground r (si q)) (ni q) j up (local-here xs i x li ei q)))) t ++ mail (nj t) (outbox-on-turning (ground r (sj t)) (nj t) i up (local-here xs j z lj ej t)))
+
+    turned-flights : (a c : ℕ) → flying (posts after) a c ≡ appended j (λ n. updates (sent-on-turning v j i up (local-at xs j) n)) (appended i (λ n. updates (sent-on-turning v i j up (local-at xs i) n)) (queued i j [] (queued j i [] (flying (posts ls))))) a c
+    turned-flights a c =
+        ap (λ ps. flying ps a c) sent-both ∙
+        flying-appended (cut i j (posts ls) ++ mail i (outbox-on-turning v i j up (local-at xs i))) (mail j (outbox-on-turning v j i up (local-at xs j))) j (sent-on-turning v j i up (local-at xs j)) (between-unless v j every (forgotten i up (local-at xs j)) (turning-fault v j i)) a c ∙
+        ap (λ q. cond (eqb a j) (q ++ updates (sent-on-turning v j i up (local-at xs j) c)) q)
+        (flying-appended (cut i j (posts ls)) (mail i (outbox-on-turning v i j up (local-at xs i))) i (sent-on-turning v i j up (local-at xs i)) (between-unless v i every (forgotten j up (local-at xs i)) (turning-fault v i j)) a c ∙ ap (λ q. cond (eqb a i) (q ++ updates (sent-on-turning v i j up (local-at xs i) c)) q) (flying-cut i j (posts ls) a c))
+
+    turned-locals : (a : ℕ) → local-at (set (set xs j z′) i x′) a ≡ at i (after-turning v i j up (local-at xs i)) (at j (after-turning v j i up (local-at xs j)) (local-at xs)) a
+    turned-locals a =
+        local-set (set xs j z′) i x′ a (omega (arith, length-set xs j z′)) ∙
+        (λ t. cond (eqb a i) (one-holds t) ((local-set xs j z′ a lj ∙ ap (λ h. at j h (local-at xs) a) other-holds) t))
+
+    pub turned-whole : whole (set (set xs j z′) i x′) after ≡ turned v i j up (whole xs ls)
+    turned-whole = λ t. record { locals = λ a. turned-locals a t; flight = λ a c. turned-flights a c t }
+
+    pub turned-within : inside (networks r) (posts ls) ≡ true → inside (networks r) (posts after) ≡ true
+    turned-within h =
+        ap (inside (networks r)) sent-both ∙
+        inside-append (networks r) (cut i j (posts ls) ++ mail i (outbox-on-turning v i j up (local-at xs i))) (mail j (outbox-on-turning v j i up (local-at xs j))) (inside-append (networks r) (cut i j (posts ls)) (mail i (outbox-on-turning v i j up (local-at xs i))) (inside-cut (networks r) i j (posts ls) h) (inside-mail v i every (forgotten j up (local-at xs i)) (turning-fault v i j) hi)) (inside-mail v j every (forgotten i up (local-at xs j)) (turning-fault v j i) hj)

@@ -4,3 +4,4 @@ pub mod Posting
 pub mod Steps
 pub mod Simulated
 pub mod Shown
+pub mod Beginning

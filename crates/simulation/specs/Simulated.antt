@@ -34,4 +34,4 @@ pub record Aside2 (x : Simulation) (i j : ℕ) (next : State) (y z : Network) (l
   pub homes : homes-of y ≡ vec-items (x .homes)
   pub homes2 : homes-of z ≡ vec-items (x .homes)
   pub within : inside (networks (x .relations)) (posts ls) ≡ true
-  pub state : whole (set (set (vec-items (x .networks)) i y) j z) ls ≡ next
+  pub state : whole (set (set (vec-items (x .networks)) j z) i y) ls ≡ next

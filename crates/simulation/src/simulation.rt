@@ -14,6 +14,7 @@ use crate::network::Network;
 use relations::Relations;
 
 mod hearing;
+mod making;
 mod reading;
 mod turning;
 

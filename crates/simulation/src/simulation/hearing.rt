@@ -16,7 +16,7 @@ use crate::posting::without;
 use crate::simulation::Simulation;
 
 // The most letters that may be in flight after a step.
-const MOST_LETTERS: usize = 4096;
+pub const MOST_LETTERS: usize = 4096;
 
 impl Simulation {
     // What is left in flight when network `to` has heard the oldest update from `from`, and that network as it is then.
@@ -31,7 +31,8 @@ impl Simulation {
             return Err(Cause::NothingInFlight);
         };
         let mut letters = without(self.letters.as_slice(), place, self.letters.allocator())?;
-        let network = self.networks[to as usize].hear(&self.relations, from, update, &mut letters)?;
+        let network = self.networks[to as usize]
+            .hear(&self.relations, from, update, &mut letters)?;
         Ok((network, letters))
     }
 

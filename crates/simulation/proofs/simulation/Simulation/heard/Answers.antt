@@ -34,8 +34,7 @@ returns c =
     let number = number-at xs j here l (c .index .ensures) (x .numbers j) in
     let homes = homes-at xs j here (vec-items (x .homes)) l (c .index .ensures) (x .same j) in
     let left = c .in-Continue-letters .ensures tt ∙ (λ z. take (c .in-Some .place) (c .as-slice-2 .ensures .value z) ++ drop (c .in-Some .place + 1) (c .as-slice-2 .ensures .value z)) in
-    let step = c .in-Continue-network .ensures tt in
-    (
+    let step = c .in-Continue-network .ensures tt in (
       (λ z. lt-ltb i (networks (x .relations)) hi z && lt-ltb j (networks (x .relations)) hj z),
       heard-some i j (c .in-Some .place) (news (c .in-Some .update)) (vec-items (x .letters)) old,
       record {
