@@ -1,5 +1,6 @@
 // The text that the programs print of a rehearsal, and the words that it starts with.
 mod homes;
+mod playing;
 mod routes;
 mod steps;
 
@@ -7,6 +8,7 @@ pub use homes::HomeCause;
 pub use homes::HomeRefusal;
 pub use homes::HomeRefusalFromAlloc;
 pub use homes::read_homes;
+pub use playing::play;
 pub use routes::push_route;
 pub use routes::show;
 pub use steps::line_fault;
