@@ -14,13 +14,13 @@ Plays all networks in memory by a script. TIES and SCRIPT are files; one of them
 may be -, standard input. The first HOME is the home of block 0, and so on.
 
 A script has one command to a line; what follows # is a comment.
-  turn I J up     the link of I and J comes up; what was told over it is forgotten
+  turn I J up     the link of I and J comes up: each tells the other anew
   turn I J down   it goes down, and what is in flight over it is lost
   hear I J        network J hears the oldest update in flight from I
   show B          shows what every network goes by for block B
 
-A ties file is bytes: 16, n, the number of ties (high byte first), and for each tie
-two networks and a kind: 1, the first is the second's customer; 2, they are peers.
+A ties file is bytes: 16, n, the number of ties (high byte first), and for each
+two networks and a kind: 1, the first is the second's customer; 2, peers.
 
 A fault has a number and a place: ties at head, tie K or end; home K; line K.
    1  unknown kind, bad length; a word that says nothing there, or is no number
