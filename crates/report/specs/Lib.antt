@@ -2,3 +2,4 @@ pub mod Routes
 pub mod Steps
 pub mod Homes
 pub mod Playing
+pub mod Laws
