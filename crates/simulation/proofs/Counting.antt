@@ -19,8 +19,8 @@ use Rattle.links.specs.World.{World}
 use Rattle.links.specs.declared.fault.Fault.{Fault}
 use Rattle.convergence.specs.Measure.{sum}
 use Rattle.convergence.proofs.Sums.{sum-add, sum-none, sum-place, sum-same}
-use Rattle.simulation.specs.Posts.{Post, between, cut, flying, goes, inside, mail}
-use Rattle.simulation.proofs.Mailed.{mail-outbox, one}
+use Rattle.mail.specs.Posts.{Post, between, cut, flying, goes, inside, mail}
+use Rattle.mail.proofs.Mailed.{mail-outbox, one}
 
 one-more : {X : Type 0} (b : Bool) (x : X) (xs : List X) → length (cond b (x ∷ xs) xs) ≡ cond b 1 0 + length xs
 one-more true x xs = omega arith

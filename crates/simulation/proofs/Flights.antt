@@ -20,11 +20,10 @@ use Rattle.links.specs.Run.{Item, update, appended, queued, updates}
 use Rattle.links.specs.World.{World}
 use Rattle.links.specs.declared.fault.Fault.{Fault}
 use Rattle.convergence.proofs.Places.{crosses, emptied, queued-is}
-use Rattle.simulation.specs.Posting.{Oldest}
-use Rattle.simulation.specs.Posts.{Post, between, cut, flying, goes, mail}
-use Rattle.simulation.proofs.Gathered.{gather-none, gather-one, gather-same}
-use Rattle.simulation.proofs.Mailed.{mail-outbox, one}
-use Rattle.simulation.proofs.Posted.{between-append}
+use Rattle.mail.specs.Posts.{Post, between, cut, flying, goes, mail}
+use Rattle.mail.proofs.Gathered.{gather-none, gather-one, gather-same}
+use Rattle.mail.proofs.Mailed.{mail-outbox, one}
+use Rattle.mail.proofs.Posted.{Front, between-append}
 
 pub between-gather : (a c : ℕ) (g : ℕ → List Post) (m : ℕ) → between a c (gather g m) ≡ gather (λ k. between a c (g k)) m
 between-gather a c g zero = refl
@@ -86,7 +85,7 @@ pub flying-appended : (ps qs : List Post) (j : ℕ) (more : ℕ → List Update)
 flying-appended ps qs j more h a c = ap (map update) (between-append a c ps qs ∙ ap (λ l. between a c ps ++ l) (h a c)) ∙ after (eqb a j) (between a c ps) (more c)
 
 -- without the oldest
-module _ (i j k : ℕ) (u : Update) (ps : List Post) (old : Oldest i j k u ps) where
+module _ (i j k : ℕ) (u : Update) (ps : List Post) (old : Front i j k u ps) where
   abbrev here : Post
   here = record { from = i; to = j; what = u }
 

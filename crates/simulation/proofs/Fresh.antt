@@ -7,8 +7,8 @@ use lib.ListN.{length, getD, length-map}
 use Rattle.std.proofs.shelf.Lists.{map-push}
 use Rattle.links.specs.Run.{begin}
 use Rattle.links.specs.Local.{silent}
-use Rattle.simulation.specs.Whole.{local-at, whole}
-use Rattle.simulation.specs.declared.network.Network.{Network}
+use Rattle.mail.specs.Whole.{local-at, whole}
+use Rattle.mail.specs.declared.network.Network.{Network}
 
 one-more : {X : Type 0} (xs : List X) (y : X) (d : ℕ → X) → ((i : ℕ) → getD xs i (d i) ≡ d i) → y ≡ d (length xs) → (i : ℕ) → getD (xs ++ y ∷ []) i (d i) ≡ d i
 one-more [] y d h e zero = e

@@ -1,10 +1,10 @@
-mod Gathered
-mod Posted
-mod Mailed
-mod Stepping
 mod Flights
 mod Counting
 mod Wholes
 mod Readings
 mod Reaching
 mod Fresh
+mod Sets
+mod Lessening
+mod Lowest
+mod Rested

@@ -2,17 +2,23 @@
 use mathlib.Core.Path.{_≡_, refl, sym, ap, _∙_, subst}
 use mathlib.Core.Bool.{Bool, true, _&&_, true≢false}
 use mathlib.Core.List.{List, [], _∷_}
+use mathlib.Core.Logic.{∥∥₁-map}
 use Prim.Native.Nat.{ℕ, _<_}
 use native.Mathlib.Omega.{arith}
 use lib.Dec.{ltb}
 use lib.ListN.{length}
 use Rattle.std.proofs.shelf.Tests.{and-parts, ltb-true}
+use Rattle.relations.specs.Sound.{networks}
 use Rattle.relations.specs.declared.relation.Relation.the-variants.{Unrelated}
 use Rattle.selection.specs.Choosing.{related}
 use Rattle.links.specs.Run.{Item, Move, Reach, State, change, hears, move, turned, turns}
 use Rattle.links.specs.World.{World}
+use Rattle.simulation.specs.Simulated.{Aside, Ready, state-of, world-of}
+use Rattle.mail.specs.declared.letter.Letter.{Letter}
+use Rattle.mail.specs.declared.network.Network.{Network}
+use Rattle.simulation.specs.declared.simulation.Simulation.{Simulation}
 use Rattle.simulation.specs.Steps.{both, first-heard, hearing}
-use Rattle.simulation.specs.Whole.{nowhere}
+use Rattle.mail.specs.Whole.{nowhere}
 
 -- hearing where something is in flight is a move
 pub heard-move : (w : World) (i j : ℕ) (s : State) → both w i j ≡ true → 0 < length (s .flight i j) → Move w nowhere s (hearing w i j s)
@@ -33,3 +39,13 @@ pub turned-reach : (w : World) (i j : ℕ) (up : Bool) (s : State) → w .rel i 
 turned-reach w i j up s apart h tied r =
     let p = and-parts (ltb i (w .n)) (ltb j (w .n)) h in
     change r (turns s i j up (ltb-true i (w .n) (p .0)) (ltb-true j (w .n) (p .1)) (λ e. true≢false (sym tied ∙ ap (λ k. related (w .rel i k)) (sym e) ∙ ap related apart)) tied)
+
+-- what was made aside may take its place
+pub heard-ready : (x : Simulation) (i j : ℕ) (y : Network) (ls : List Letter) → both (world-of x) i j ≡ true → 0 < length (state-of x .flight i j) → Aside x j (hearing (world-of x) i j (state-of x)) y ls → Ready x j y ls
+heard-ready x i j y ls h some aside = record {
+  there = ltb-true j (networks (x .relations)) (and-parts (ltb i (networks (x .relations))) (ltb j (networks (x .relations))) h .1);
+  number = aside .number;
+  homes = aside .homes;
+  within = aside .within;
+  reached = ∥∥₁-map (x .reached) (λ r. subst (Reach (world-of x) nowhere) (sym (aside .state)) (heard-reach (world-of x) i j (state-of x) h some r));
+}

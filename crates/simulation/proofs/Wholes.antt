@@ -17,12 +17,12 @@ use Rattle.links.specs.Hearing.{after-hearing, after-turning, every, forgotten,
 use Rattle.links.specs.Local.{Local, Update, at, silent}
 use Rattle.links.specs.Run.{Item, State, appended, heard, queued, turned, update, updates}
 use Rattle.links.specs.World.{World}
-use Rattle.simulation.specs.Posting.{Oldest}
-use Rattle.simulation.specs.Posts.{Post, cut, flying, inside, mail, meant, posts}
+use Rattle.mail.proofs.Posted.{Front}
+use Rattle.mail.specs.Posts.{Post, cut, flying, inside, mail, meant, posts}
 use Rattle.simulation.specs.Steps.{first-heard, hearing}
-use Rattle.simulation.specs.Whole.{Stepped, ground, ground-of, homes-of, local, local-at, number-of, whole}
-use Rattle.simulation.specs.declared.letter.Letter.{Letter}
-use Rattle.simulation.specs.declared.network.Network.{Network}
+use Rattle.mail.specs.Whole.{BothTurned, Stepped, ground, ground-of, homes-of, local, local-at, number-of, whole}
+use Rattle.mail.specs.declared.letter.Letter.{Letter}
+use Rattle.mail.specs.declared.network.Network.{Network}
 use Rattle.simulation.proofs.Counting.{inside-append, inside-cut, inside-mail, inside-without}
 use Rattle.simulation.proofs.Flights.{between-unless, flying-appended, flying-cut, flying-without, lost-one}
 
@@ -84,7 +84,7 @@ module _ (r : Relations) (homes : List ℕ) (xs : List Network) (ls : List Lette
   s = whole xs ls
 
   -- network x, which is number j, heard the oldest from i
-  module _ (i j k : ℕ) (u : Update) (x y : Network) (left after : List Letter) (hi : i < networks r) (hj : j < networks r) (l : j < length xs) (e : x ≡ getD xs j x) (number : number-of x ≡ j) (same : homes-of x ≡ homes) (old : Oldest i j k u (posts ls)) (cut-out : left ≡ take k ls ++ drop (k + 1) ls) (step : Stepped x (after-hearing (ground-of r x) (number-of x) i u (local x)) (outbox-on-hearing (ground-of r x) (number-of x) i u (local x)) left after y) where
+  module _ (i j k : ℕ) (u : Update) (x y : Network) (left after : List Letter) (hi : i < networks r) (hj : j < networks r) (l : j < length xs) (e : x ≡ getD xs j x) (number : number-of x ≡ j) (same : homes-of x ≡ homes) (old : Front i j k u (posts ls)) (cut-out : left ≡ take k ls ++ drop (k + 1) ls) (step : Stepped x (after-hearing (ground-of r x) (number-of x) i u (local x)) (outbox-on-hearing (ground-of r x) (number-of x) i u (local x)) left after y) where
     abbrev rest : List Post
     rest = take k (posts ls) ++ drop (k + 1) (posts ls)
 
@@ -108,25 +108,23 @@ module _ (r : Relations) (homes : List ℕ) (xs : List Network) (ls : List Lette
     pub heard-within : inside (networks r) (posts ls) ≡ true → inside (networks r) (posts after) ≡ true
     heard-within h = ap (inside (networks r)) all-letters ∙ inside-append (networks r) rest (mail j (outbox-on-hearing w j i u (local-at xs j))) (inside-without (networks r) k (posts ls) h) (inside-mail w j (only (u .block)) (replaced i u (local-at xs j)) (hearing-fault w j (local-at xs j) i u) hj)
 
-pub heard-some : (i j k : ℕ) (u : Update) (ls : List Letter) → Oldest i j k u (posts ls) → 0 < length (flying (posts ls) i j)
+pub heard-some : (i j k : ℕ) (u : Update) (ls : List Letter) → Front i j k u (posts ls) → 0 < length (flying (posts ls) i j)
 heard-some i j k u ls old = let e = ap (λ us. length (map update us)) (lost-one i j k u (posts ls) old) in omega (arith, e)
 
 module _ (r : Relations) (homes : List ℕ) (xs : List Network) (ls : List Letter) where
   -- the link of i and j turned: x, which is number i, stepped, and then z, which is number j
-  module _ (i j : ℕ) (up : Bool) (x x′ z z′ : Network) (left between after : List Letter) (hi : i < networks r) (hj : j < networks r) (li : i < length xs) (lj : j < length xs) (ei : x ≡ getD xs i x) (ej : z ≡ getD xs j z) (ni : number-of x ≡ i) (nj : number-of z ≡ j) (si : homes-of x ≡ homes) (sj : homes-of z ≡ homes) (cut-out : posts left ≡ cut i j (posts ls)) (one : Stepped x (after-turning (ground-of r x) (number-of x) j up (local x)) (outbox-on-turning (ground-of r x) (number-of x) j up (local x)) left between x′) (other : Stepped z (after-turning (ground-of r z) (number-of z) i up (local z)) (outbox-on-turning (ground-of r z) (number-of z) i up (local z)) between after z′) where
+  module _ (i j : ℕ) (up : Bool) (x x′ z z′ : Network) (left after : List Letter) (hi : i < networks r) (hj : j < networks r) (li : i < length xs) (lj : j < length xs) (ei : x ≡ getD xs i x) (ej : z ≡ getD xs j z) (ni : number-of x ≡ i) (nj : number-of z ≡ j) (si : homes-of x ≡ homes) (sj : homes-of z ≡ homes) (cut-out : posts left ≡ cut i j (posts ls)) (both : BothTurned r x z i j up left after (x′, z′)) where
     abbrev v : World
     v = ground r homes
 
     one-holds : local x′ ≡ after-turning v i j up (local-at xs i)
-    one-holds = one .holds ∙ (λ t. after-turning (ground r (si t)) (ni t) j up (local-here xs i x li ei t))
+    one-holds = both .holds ∙ (λ t. after-turning (ground r (si t)) (ni t) j up (local-here xs i x li ei t))
 
     other-holds : local z′ ≡ after-turning v j i up (local-at xs j)
-    other-holds = other .holds ∙ (λ t. after-turning (ground r (sj t)) (nj t) i up (local-here xs j z lj ej t))
+    other-holds = both .holds2 ∙ (λ t. after-turning (ground r (sj t)) (nj t) i up (local-here xs j z lj ej t))
 
     sent-both : posts after ≡ (cut i j (posts ls) ++ mail i (outbox-on-turning v i j up (local-at xs i))) ++ mail j (outbox-on-turning v j i up (local-at xs j))
-    sent-both =
-        other .letters ∙
-        (λ t. (one .letters ∙ (λ q. cut-out q ++ mail (ni q) (outbox-on-turning (ground r (si q)) (ni q) j up (local-here xs i x li ei q)))) t ++ mail (nj t) (outbox-on-turning (ground r (sj t)) (nj t) i up (local-here xs j z lj ej t)))
+    sent-both = both .letters ∙ (λ t. (cut-out t ++ mail (ni t) (outbox-on-turning (ground r (si t)) (ni t) j up (local-here xs i x li ei t))) ++ mail (nj t) (outbox-on-turning (ground r (sj t)) (nj t) i up (local-here xs j z lj ej t)))
 
     turned-flights : (a c : ℕ) → flying (posts after) a c ≡ appended j (λ n. updates (sent-on-turning v j i up (local-at xs j) n)) (appended i (λ n. updates (sent-on-turning v i j up (local-at xs i) n)) (queued i j [] (queued j i [] (flying (posts ls))))) a c
     turned-flights a c =

@@ -16,8 +16,8 @@ use Rattle.simulation.specs.declared.simulation.Simulation.{Simulation}
 use Rattle.std.specs.declared.option.Option.{Option}
 use Rattle.std.specs.declared.option.Option.the-variants.{None, Some}
 use Rattle.links.specs.Local.{Local, silent}
-use Rattle.simulation.specs.Whole.{ground, homes-of, local, local-at, number-of}
-use Rattle.simulation.specs.declared.network.Network.{Network}
+use Rattle.mail.specs.Whole.{ground, homes-of, local, local-at, number-of}
+use Rattle.mail.specs.declared.network.Network.{Network}
 
 -- a network that received and advertised nothing; none for more than 256 blocks
 abbrev pub Fresh : ℕ → List ℕ → Option Network → Type 0

@@ -9,7 +9,7 @@ use Rattle.selection.specs.Choosing.{related}
 use Rattle.links.specs.Run.{Item, State, taken, turned}
 use Rattle.links.specs.World.{World}
 use Rattle.convergence.specs.Measure.{sum}
-use Rattle.simulation.specs.Whole.{nowhere}
+use Rattle.mail.specs.Whole.{nowhere}
 use Rattle.simulation.specs.declared.cause.Cause.{Cause}
 use Rattle.simulation.specs.declared.cause.Cause.the-variants.{NoSuchNetwork, NothingInFlight, NoLink, TooMany, Memory}
 

@@ -1,8 +1,5 @@
 // All networks in memory: n routers, and what is in flight between them.
 mod cause;
-mod letter;
-mod network;
-mod posting;
 mod simulation;
 mod wording;
 

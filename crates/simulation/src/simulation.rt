@@ -7,15 +7,16 @@ ghost use lib.ListN.{getD};
 ghost use Rattle.std.specs.Of.Vec.{vec-items, vec-len};
 ghost use Rattle.relations.specs.Sound.{networks as count};
 ghost use Rattle.links.specs.Run.{Reach};
-ghost use Rattle.simulation.specs.Posts.{inside, posts};
-ghost use Rattle.simulation.specs.Whole.{ground, homes-of, nowhere, number-of, whole};
-use crate::letter::Letter;
-use crate::network::Network;
+ghost use Rattle.mail.specs.Posts.{inside, posts};
+ghost use Rattle.mail.specs.Whole.{ground, homes-of, nowhere, number-of, whole};
+use mail::Letter;
+use mail::Network;
 use relations::Relations;
 
 mod hearing;
 mod making;
 mod reading;
+mod resting;
 mod turning;
 
 // The networks stand in the order of their numbers; the letters, what is in flight, in the order in which they were sent.

@@ -2,7 +2,7 @@
 ghost use mathlib.Core.Path.{_≡_};
 ghost use Rattle.std.specs.Vec.{made};
 ghost use Rattle.simulation.specs.Beginning.{AllFresh, Began, Fresh};
-use crate::network::Network;
+use mail::Network;
 use crate::simulation::Simulation;
 use links::Router;
 use links::Tables;

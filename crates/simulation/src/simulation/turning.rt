@@ -9,9 +9,10 @@ ghost use Rattle.simulation.specs.Simulated.{Aside2, state-of, world-of};
 ghost use Rattle.simulation.specs.Steps.{NotTurned, Turns, both};
 use crate::cause::Cause;
 use crate::cause::CauseFromAlloc;
-use crate::letter::Letter;
-use crate::network::Network;
-use crate::posting::cut_link;
+use mail::Letter;
+use mail::Network;
+use mail::cut_link;
+use mail::turn_both;
 use crate::simulation::Simulation;
 use crate::simulation::hearing::MOST_LETTERS;
 use relations::Relation;
@@ -34,10 +35,15 @@ impl Simulation {
             other,
             self.letters.allocator(),
         )?;
-        let first = self.networks[one as usize]
-            .turn(&self.relations, other, up, &mut letters)?;
-        let second = self.networks[other as usize]
-            .turn(&self.relations, one, up, &mut letters)?;
+        let (first, second) = turn_both(
+            &self.relations,
+            &self.networks[one as usize],
+            &self.networks[other as usize],
+            one,
+            other,
+            up,
+            &mut letters,
+        )?;
         Ok((first, second, letters))
     }
 

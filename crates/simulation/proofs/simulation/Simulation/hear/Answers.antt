@@ -1,20 +1,20 @@
 -- What was made aside takes its place.
 use mathlib.Core.Path.{_≡_, refl, sym, ap, _∙_, subst}
-use mathlib.Core.Bool.{true}
 use mathlib.Core.Logic.{∥∥₁-map}
-use Prim.Native.Nat.{_<_, _≤_}
 use native.Mathlib.Omega.{arith}
-use lib.ListN.{length, set, length-map}
-use Rattle.std.specs.Of.Vec.{vec-items, vec-len}
+use lib.Dec.{ltb}
+use lib.ListN.{length-map}
+use Rattle.std.specs.Of.Vec.{vec-items}
+use Rattle.std.proofs.shelf.Tests.{and-parts, ltb-true}
 use Rattle.relations.specs.Sound.{networks}
 use Rattle.links.specs.Run.{Reach}
-use Rattle.simulation.specs.Posts.{meant, posts}
+use Rattle.mail.specs.Posts.{meant, posts}
 use Rattle.simulation.specs.Simulated.{state-of, world-of}
-use Rattle.simulation.specs.Steps.{afloat, hearing}
-use Rattle.simulation.specs.Whole.{nowhere}
+use Rattle.simulation.specs.Steps.{afloat}
+use Rattle.mail.specs.Whole.{nowhere}
 use Rattle.simulation.proofs.Counting.{counted}
-use Rattle.simulation.proofs.Reaching.{heard-reach}
-use Rattle.simulation.proofs.Wholes.{homes-set, number-set}
+use Rattle.simulation.proofs.Lessening.{heard-lessens}
+use Rattle.simulation.proofs.Reaching.{heard-ready}
 use Rattle.simulation.proofs.simulation.Simulation.hear.Needs as need
 
 pub returns-then-len-gt-MOST-LETTERS : need.returns-then-len-gt-MOST-LETTERS
@@ -24,16 +24,10 @@ returns-then-len-gt-MOST-LETTERS c =
     let ls = vec-items (c .in-Continue-network .letters) in
     let many = counted (networks (x .relations)) (posts ls) (done .2 .within) in
     let same = ap (afloat (world-of x)) (done .2 .state) in
-    record { world = refl; played = ((done .0, done .1, omega (arith, many, same, length-map ls meant, c .in-Continue-network .letters .ok .0, c .if-len-gt-MOST-LETTERS .taken, c .len .ensures)), refl) }
+    record { world = refl; played = ((done .0, done .1, omega (arith, many, same, length-map ls meant, c .in-Continue-network .letters .ok .0, c .if-len-gt-MOST-LETTERS .taken, c .len .ensures)), refl); falls = tt }
 
-pub ghost-self : need.ghost-self
-ghost-self c =
-    let x = c .args .self .now in
-    let done = c .in-Continue-network .ensures tt in
-    let numbers = number-set (vec-items (x .networks)) (c .args .to) (c .in-Continue-network .network) (done .2 .number) (x .numbers) in
-    let homes = homes-set (vec-items (x .networks)) (c .args .to) (c .in-Continue-network .network) (vec-items (x .homes)) (done .2 .homes) (x .same) in
-    let reached = ∥∥₁-map (x .reached) (λ r. subst (Reach (world-of x) nowhere) (sym (done .2 .state)) (heard-reach (world-of x) (c .args .from) (c .args .to) (state-of x) (done .0) (done .1) r)) in
-    (x .all, (x .few, (x .blocks, (numbers, (homes, (done .2 .within, (reached, tt)))))))
+pub place-requires : need.place-requires
+place-requires c κs = let done = c .in-Continue-network .ensures tt in heard-ready (c .args .self .now) (c .args .from) (c .args .to) (c .in-Continue-network .network) (vec-items (c .in-Continue-network .letters)) (done .0) (done .1) (done .2)
 
 pub returns : need.returns
 returns c =
@@ -41,12 +35,15 @@ returns c =
     let done = c .in-Continue-network .ensures tt in
     let ls = vec-items (c .in-Continue-network .letters) in
     let many = counted (networks (x .relations)) (posts ls) (done .2 .within) in
+    let state = c .place .ensures .state in
+    let same = ap (afloat (world-of x)) state in
     record {
-      world = refl;
+      world = c .place .ensures .world;
       played = record {
         below = done .0;
         some = done .1;
-        room = omega (arith, many, length-map ls meant, c .in-Continue-network .letters .ok .0, c .if-len-gt-MOST-LETTERS .left, c .len .ensures);
-        step = done .2 .state;
+        room = omega (arith, many, same, length-map ls meant, c .in-Continue-network .letters .ok .0, c .if-len-gt-MOST-LETTERS .left, c .len .ensures);
+        step = state ∙ done .2 .state;
       };
+      falls = heard-lessens x (c .args .from) (c .args .to) _ (done .0) (done .1) (state ∙ done .2 .state);
     }

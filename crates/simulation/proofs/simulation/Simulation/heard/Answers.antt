@@ -5,20 +5,20 @@ use mathlib.Core.List.{_++_}
 use Prim.Native.Nat.{_+_, _<_}
 use native.Mathlib.Omega.{arith}
 use lib.Dec.{ltb}
-use lib.ListN.{length, take, drop, length-map}
+use lib.ListN.{length, take, drop}
 use Rattle.std.specs.Of.Vec.{vec-items, vec-len}
 use Rattle.std.proofs.shelf.Tests.{lt-ltb}
 use Rattle.relations.specs.Sound.{networks}
 use Rattle.links.specs.Held.{news}
-use Rattle.simulation.specs.Posting.{Oldest}
-use Rattle.simulation.specs.Posts.{meant, posts}
+use Rattle.mail.specs.Posting.{Oldest}
+use Rattle.mail.proofs.Posted.{oldest-front}
 use Rattle.simulation.proofs.Wholes.{heard-some, heard-whole, heard-within, homes-at, number-at}
 use Rattle.simulation.proofs.simulation.Simulation.heard.Needs as need
 
 pub without-requires : need.without-requires
 without-requires c κs =
-    let old : Oldest (c .args .from) (c .args .to) (c .in-Some .place) (news (c .in-Some .update)) (posts (c .as-slice .result .now)) = c .in-Some .ensures tt in
-    omega (arith, old .there, length-map (c .as-slice .result .now) meant, ap length (c .as-slice .ensures .value), ap length (c .as-slice-2 .ensures .value))
+    let old : Oldest (c .args .from) (c .args .to) (c .in-Some .place) (c .in-Some .update) (c .as-slice .result .now) = c .in-Some .ensures tt in
+    omega (arith, old .there, ap length (c .as-slice .ensures .value), ap length (c .as-slice-2 .ensures .value))
 
 pub returns : need.returns
 returns c =
@@ -27,7 +27,7 @@ returns c =
     let j = c .args .to in
     let xs = vec-items (x .networks) in
     let here = c .index .result .now in
-    let old : Oldest i j (c .in-Some .place) (news (c .in-Some .update)) (posts (vec-items (x .letters))) = subst (λ ls. Oldest i j (c .in-Some .place) (news (c .in-Some .update)) (posts ls)) (c .as-slice .ensures .value) (c .in-Some .ensures tt) in
+    let old = oldest-front i j (c .in-Some .place) (c .in-Some .update) (vec-items (x .letters)) (subst (Oldest i j (c .in-Some .place) (c .in-Some .update)) (c .as-slice .ensures .value) (c .in-Some .ensures tt)) in
     let hi : i < networks (x .relations) = omega (arith, c .if-from-networks .left, c .networks-networks .ensures) in
     let hj : j < networks (x .relations) = omega (arith, c .if-to-networks .left, c .networks-networks .ensures) in
     let l : j < length xs = omega (arith, hj, x .all, x .networks .ok .0) in

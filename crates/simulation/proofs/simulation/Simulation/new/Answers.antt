@@ -10,8 +10,8 @@ use Rattle.std.specs.Of.Vec.{vec-items, vec-len}
 use Rattle.relations.specs.Sound.{networks}
 use Rattle.links.specs.Run.{Reach, start}
 use Rattle.simulation.specs.Beginning.{AllFresh}
-use Rattle.simulation.specs.Posts.{inside, posts}
-use Rattle.simulation.specs.Whole.{ground, homes-of, nowhere, whole}
+use Rattle.mail.specs.Posts.{inside, posts}
+use Rattle.mail.specs.Whole.{ground, homes-of, nowhere, whole}
 use Rattle.simulation.proofs.Fresh.{begins-silent}
 use Rattle.simulation.proofs.simulation.Simulation.new.Needs as need
 

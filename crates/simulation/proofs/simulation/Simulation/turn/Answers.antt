@@ -6,10 +6,10 @@ use lib.ListN.{set, length-map}
 use Rattle.std.specs.Of.Vec.{vec-items}
 use Rattle.relations.specs.Sound.{networks}
 use Rattle.links.specs.Run.{Reach}
-use Rattle.simulation.specs.Posts.{meant, posts}
+use Rattle.mail.specs.Posts.{meant, posts}
 use Rattle.simulation.specs.Simulated.{state-of, world-of}
 use Rattle.simulation.specs.Steps.{afloat}
-use Rattle.simulation.specs.Whole.{nowhere}
+use Rattle.mail.specs.Whole.{nowhere}
 use Rattle.simulation.proofs.Counting.{counted}
 use Rattle.simulation.proofs.Reaching.{turned-reach}
 use Rattle.simulation.proofs.Wholes.{homes-set, number-set}

@@ -9,7 +9,7 @@ use Rattle.std.proofs.shelf.Tests.{both-ways, lt-ltb}
 use Rattle.relations.specs.Sound.{networks, relation}
 use Rattle.selection.specs.Choosing.{related}
 use Rattle.links.proofs.Turning.{is-related}
-use Rattle.simulation.specs.Posts.{cut, posts}
+use Rattle.mail.specs.Posts.{cut, posts}
 use Rattle.simulation.proofs.Wholes.{homes-at, number-at, turned-whole, turned-within}
 use Rattle.simulation.proofs.simulation.Simulation.turned.Needs as need
 use Rattle.simulation.proofs.simulation.Simulation.turned.Needs.{in-Unrelated, in-rest}
@@ -32,16 +32,15 @@ returns c =
     let si = homes-at xs i (c .index .result .now) homes li (c .index .ensures) (x .same i) in
     let sj = homes-at xs j (c .index-2 .result .now) homes lj (c .index-2 .ensures) (x .same j) in
     let left = c .in-Continue-letters .ensures tt ∙ ap (λ l. cut i j (posts l)) (c .as-slice .ensures .value) in
-    let one = c .in-Continue-first .ensures tt in
-    let other = c .in-Continue-second .ensures tt in (
+    let done = c .in-Continue-first .ensures tt in (
       (λ z. lt-ltb i (networks (x .relations)) hi z && lt-ltb j (networks (x .relations)) hj z),
       tied,
       record {
-        number = one .number ∙ ni;
-        number2 = other .number ∙ nj;
-        homes = one .homes ∙ si;
-        homes2 = other .homes ∙ sj;
-        within = turned-within (x .relations) homes xs ls i j (c .args .up) (c .index .result .now) (c .in-Continue-first .first) (c .index-2 .result .now) (c .in-Continue-second .second) _ _ _ hi hj li lj (c .index .ensures) (c .index-2 .ensures) ni nj si sj left one other (x .within);
-        state = turned-whole (x .relations) homes xs ls i j (c .args .up) (c .index .result .now) (c .in-Continue-first .first) (c .index-2 .result .now) (c .in-Continue-second .second) _ _ _ hi hj li lj (c .index .ensures) (c .index-2 .ensures) ni nj si sj left one other;
+        number = done .number ∙ ni;
+        number2 = done .number2 ∙ nj;
+        homes = done .homes ∙ si;
+        homes2 = done .homes2 ∙ sj;
+        within = turned-within (x .relations) homes xs ls i j (c .args .up) (c .index .result .now) (c .in-Continue-first .first) (c .index-2 .result .now) (c .in-Continue-first .second) _ _ hi hj li lj (c .index .ensures) (c .index-2 .ensures) ni nj si sj left done (x .within);
+        state = turned-whole (x .relations) homes xs ls i j (c .args .up) (c .index .result .now) (c .in-Continue-first .first) (c .index-2 .result .now) (c .in-Continue-first .second) _ _ hi hj li lj (c .index .ensures) (c .index-2 .ensures) ni nj si sj left done;
       },
     )

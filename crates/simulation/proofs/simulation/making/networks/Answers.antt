@@ -5,7 +5,7 @@ use lib.ListN.{length}
 use Rattle.std.specs.Of.Vec.{vec-items}
 use Rattle.links.specs.Local.{silent}
 use Rattle.simulation.specs.Beginning.{Fresh}
-use Rattle.simulation.specs.Whole.{homes-of, local, number-of}
+use Rattle.mail.specs.Whole.{homes-of, local, number-of}
 use Rattle.simulation.proofs.Fresh.{placed-more}
 use Rattle.simulation.proofs.simulation.making.networks.Needs as need
 

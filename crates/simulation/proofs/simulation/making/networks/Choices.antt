@@ -5,7 +5,7 @@ use Prim.Native.Nat.{ℕ}
 use lib.ListN.{getD}
 use Rattle.std.specs.Of.Vec.{vec-items, vec-len}
 use Rattle.links.specs.Local.{silent}
-use Rattle.simulation.specs.Whole.{homes-of, local-at, number-of}
+use Rattle.mail.specs.Whole.{homes-of, local-at, number-of}
 use Rattle.simulation.proofs.simulation.making.networks.Given as given
 
 abbrev pub Inv-loop-number : given.InvT-loop-number

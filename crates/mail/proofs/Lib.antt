@@ -1,0 +1,4 @@
+pub mod Gathered
+pub mod Posted
+pub mod Mailed
+pub mod Stepping

@@ -1,0 +1,3 @@
+pub mod Posts
+pub mod Posting
+pub mod Whole
