@@ -12,7 +12,11 @@ use script::Script;
 use simulation::Simulation;
 
 // The next command, or what is told of a faulty line.
-fn next(rt: &LibcRuntime, script: &mut Script<'_>, limits: Limits) -> Result<Option<Command>, Failure>
+fn next(
+    rt: &LibcRuntime,
+    script: &mut Script<'_>,
+    limits: Limits,
+) -> Result<Option<Command>, Failure>
     ensures { λ r. ⌜ Shortens r (length (left-of (now (script .entry)))) (length (left-of (now (script .exit)))) ⌝ }
 {
     match script.next(limits) {
@@ -26,7 +30,12 @@ fn next(rt: &LibcRuntime, script: &mut Script<'_>, limits: Limits) -> Result<Opt
 }
 
 // Plays a command, and writes what is shown to standard output.
-fn play(rt: &LibcRuntime, simulation: &mut Simulation, command: Command, line: usize) -> Result<(), Failure> {
+fn play(
+    rt: &LibcRuntime,
+    simulation: &mut Simulation,
+    command: Command,
+    line: usize,
+) -> Result<(), Failure> {
     let heap = rt.alloc();
     if let Err(cause) = report::play(simulation, command) {
         let line = report::step_fault(cause, line, heap)?;

@@ -45,6 +45,8 @@ impl Simulation {
             return Route::Nothing;
         }
         let network = &self.networks[at];
-        network.router.route(&self.relations, &network.tables, block)
+        network
+            .router
+            .route(&self.relations, &network.tables, block)
     }
 }
