@@ -7,3 +7,4 @@ pub mod Whole
 pub mod Written
 pub mod Laws
 pub mod Words
+pub mod Networks

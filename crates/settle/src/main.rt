@@ -9,7 +9,24 @@ use std::io;
 use std::io::Read;
 use ties::Refusal;
 
-const USAGE: &str = "usage: settle TIES   (a ties file, or - for standard input)";
+const USAGE: &str = "usage: settle TIES   (--help says more)";
+
+const HELP: &str = "usage: settle TIES
+Says whether a ties file is sound; where it is not, what is wrong and where.
+TIES is a file, or - for standard input.
+
+A ties file is bytes: 16, n, the number of ties (high byte first), and for each
+two networks and a kind: 1, the first is the second's customer; 2, peers. Ties
+stand in rising order of the first and then the second number; of peers the
+lower number stands first. There are 1 to 64 networks, numbered from 0.
+
+A fault has a number and a place, the head, tie K from 0 or the end:
+   1  unknown kind; bad length: cut short, or bytes past the end
+   2  a network not below n; n of 0 or above 64
+   3  ties not in rising order; two ties of one pair; peers with the higher
+      number first; a network tied to itself
+   5  a ring of customers
+";
 
 // What ends the program with status 1.
 #[derive(Drop)]
@@ -92,6 +109,10 @@ fn run(rt: &LibcRuntime) -> Result<(), Failure> {
     };
     if args.next().is_some() {
         return Err(told(rt.alloc(), USAGE));
+    }
+    if path.as_str() == "--help" {
+        rt.print(HELP)?;
+        return Ok(());
     }
     check(rt, path.as_str())
 }

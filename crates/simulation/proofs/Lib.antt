@@ -1,6 +1,7 @@
 mod Flights
 mod Counting
 mod Wholes
+mod Readings
 mod Reaching
 mod Fresh
 mod Sets

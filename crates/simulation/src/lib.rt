@@ -1,6 +1,7 @@
 // All networks in memory: n routers, and what is in flight between them.
 mod cause;
 mod simulation;
+mod wording;
 
 pub use cause::Cause;
 pub use cause::CauseDebug;

@@ -15,6 +15,7 @@ use relations::Relations;
 
 mod hearing;
 mod making;
+mod reading;
 mod resting;
 mod turning;
 

@@ -1,0 +1,5 @@
+pub mod Routes
+pub mod Steps
+pub mod Homes
+pub mod Playing
+pub mod Laws
