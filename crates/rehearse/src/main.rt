@@ -17,6 +17,7 @@ A script has one command to a line; what follows # is a comment.
   turn I J up     the link of I and J comes up: each tells the other anew
   turn I J down   it goes down, and what is in flight over it is lost
   hear I J        network J hears the oldest update in flight from I
+  rest            hears until nothing is in flight, the lowest pair I J first
   show B          shows what every network goes by for block B
 
 A ties file is bytes: 16, n, the number of ties (high byte first), and for each
