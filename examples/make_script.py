@@ -71,13 +71,20 @@ class Networks:
 
     def hear(self, i, j):
         self.lines.append(f'hear {i} {j}'); self.steps += 1
+        self.take(i, j)
+
+    def take(self, i, j):
         b, path = self.flight[i, j].pop(0)
         if path is None: self.received[j][b].pop(i, None)
         else: self.received[j][b][i] = path
         self.tell(j, b)
 
-    def rest(self, pick=min):
+    def hear_all(self, pick=min):
         while self.due(): self.hear(*pick(self.due()))
+
+    def rest(self):
+        self.lines.append('rest'); self.steps += 1
+        while self.due(): self.take(*min(self.due()))
 
     def show(self, b):
         self.lines.append(f'show {b}')
@@ -106,9 +113,9 @@ def a():
     s = Networks('a.ties', [0])
     s.note('all links come up, and everything is heard')
     for i, j in ((0, 1), (0, 2), (1, 2), (3, 1), (3, 2)): s.turn(i, j, True)
-    s.rest(); s.show(0); s.check()
+    s.hear_all(); s.show(0); s.check()
     s.note('0 and 1 lose their link')
-    s.turn(0, 1, False); s.rest(); s.show(0); s.check()
+    s.turn(0, 1, False); s.hear_all(); s.show(0); s.check()
     s.write('a')
 
 def g():
@@ -124,7 +131,7 @@ def g():
     s.show(0)
     s.hear(2, 3); assert not s.flight.get((2, 3))
     s.show(0)
-    s.rest(); s.show(0); s.check()
+    s.hear_all(); s.show(0); s.check()
     s.write('g')
 
 def sixteen():
@@ -139,7 +146,7 @@ def sixteen():
             if s.due(): s.hear(*rng.choice(s.due()))
     s.show(0)
     s.note('everything is heard, in any order')
-    s.rest(rng.choice)
+    s.hear_all(rng.choice)
     for b in range(3): s.show(b)
     s.check()
     s.note('some links are lost, and come back, while updates are in flight')
@@ -148,9 +155,18 @@ def sixteen():
         s.turn(i, j, not s.up(i, j))
         for _ in range(rng.randrange(8)):
             if s.due(): s.hear(*rng.choice(s.due()))
-    s.rest(rng.choice)
+    s.hear_all(rng.choice)
     for b in range(3): s.show(b)
     s.check()
+    s.note('links turn with updates in flight, and all come to rest, several times')
+    for _ in range(5):
+        for _ in range(12):
+            i, j = rng.choice(ties)
+            s.turn(i, j, rng.random() < 0.6)
+            if s.due() and rng.random() < 0.5: s.hear(*rng.choice(s.due()))
+        s.rest()
+        for b in range(3): s.show(b)
+        s.check()
     s.write('sixteen')
 
 a(); g(); sixteen()
