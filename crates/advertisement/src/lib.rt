@@ -1,4 +1,6 @@
 // What a network tells its neighbours.
+#![tactic(auto)]
+
 mod audience;
 mod laws;
 mod policy;

@@ -1,4 +1,6 @@
 // That the telling ends at the one stable routing: the theorems on every run.
+#![tactic(auto)]
+
 mod laws;
 
 pub use laws::{

@@ -1,4 +1,6 @@
 // One network's router: what it hears, selects and tells, over links that fail and come back.
+#![tactic(auto)]
+
 mod fault;
 mod laws;
 mod paths;

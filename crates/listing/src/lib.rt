@@ -1,4 +1,6 @@
 // Relations as a list of ties: how many there are, and the file that they make.
+#![tactic(auto)]
+
 mod account;
 mod encoder;
 

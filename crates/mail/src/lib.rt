@@ -1,4 +1,6 @@
 // Letters between networks, and networks that step and send them.
+#![tactic(auto)]
+
 mod letter;
 mod network;
 mod posting;

@@ -1,4 +1,6 @@
 // Why a ties file is refused, and the words that tell it.
+#![tactic(auto)]
+
 mod refusal;
 mod wording;
 

@@ -1,4 +1,6 @@
 // rehearsals (TIES SCRIPT HOME)...: plays several scripts, and says of each what it shows and why it is not played on.
+#![tactic(auto)]
+
 use stage::{Failure, load, perform, set_up, unmoved, words};
 use std::io;
 

@@ -1,4 +1,6 @@
 // rehearse TIES SCRIPT HOME...: plays all networks in memory by a script.
+#![tactic(auto)]
+
 use stage::{Failure, load, perform, set_up, told, unmoved, words};
 
 const USAGE: &str = "usage: rehearse TIES SCRIPT HOME...   (--help says more)";

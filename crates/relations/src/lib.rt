@@ -1,4 +1,6 @@
 // What networks are to each other: customer, provider or peer; both ends say the same, and no cycle of customers.
+#![tactic(auto)]
+
 mod laws;
 mod matrix;
 mod relation;

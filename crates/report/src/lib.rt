@@ -1,4 +1,6 @@
 // The text that the programs print of a rehearsal, and the words that it starts with.
+#![tactic(auto)]
+
 mod homes;
 mod laws;
 mod playing;

@@ -1,3 +1,5 @@
 // Examples of what a router does, each proved to end and then run.
+#![tactic(auto)]
+
 #[cfg(test)]
 mod routing;

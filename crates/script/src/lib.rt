@@ -1,4 +1,6 @@
 // Scripts: text with one command to a line, read exactly.
+#![tactic(auto)]
+
 mod cause;
 mod command;
 mod cut;

@@ -1,4 +1,6 @@
 // What a network was told of paths, and which of them it goes by.
+#![tactic(auto)]
+
 mod laws;
 mod route;
 mod selecting;

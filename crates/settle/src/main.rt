@@ -1,4 +1,6 @@
 // settle TIES: reads a ties file, and says whether it is sound.
+#![tactic(auto)]
+
 use relations::MOST;
 use std::alloc::{AllocError, Global};
 use std::io::Read;

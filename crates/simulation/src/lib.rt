@@ -1,4 +1,6 @@
 // All networks in memory: n routers, and what is in flight between them.
+#![tactic(auto)]
+
 mod cause;
 mod simulation;
 mod wording;

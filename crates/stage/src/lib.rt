@@ -1,4 +1,6 @@
 // What the programs that play scripts share: networks set up by a ties file and homes, and a script that is played.
+#![tactic(auto)]
+
 mod failure;
 mod loading;
 mod performing;

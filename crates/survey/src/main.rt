@@ -1,4 +1,6 @@
 // survey FILE...: says of each ties file whether it is sound, or why it is refused.
+#![tactic(auto)]
+
 use relations::MOST;
 use std::{env, fs};
 

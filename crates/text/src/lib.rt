@@ -1,4 +1,6 @@
 // Text that the programs print: numbers in a row.
+#![tactic(auto)]
+
 mod numbers;
 
 pub use numbers::push_numbers;

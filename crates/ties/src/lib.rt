@@ -1,4 +1,6 @@
 // The ties file: relations between networks as bytes, read exactly and written.
+#![tactic(auto)]
+
 mod decoder;
 mod laws;
 mod tie;

@@ -1,4 +1,6 @@
 // Examples of what the libraries below the router do, each proved to end and then run.
+#![tactic(auto)]
+
 #[cfg(test)]
 mod choosing;
 #[cfg(test)]
