@@ -5,8 +5,7 @@ ghost use Rattle.listing.specs.Encoding.{listed, listing, row};
 ghost use Rattle.listing.specs.Words.{summary_words};
 
 use relations::{Relation, Relations};
-use std::alloc::Global;
-use std::fmt;
+use std::alloc::{AllocError, Global};
 
 // How many ties of networks i and j stand in the file with i first: one or none.
 fn count_tie(i: u8, j: u8, relation: Relation) -> u16
@@ -42,7 +41,7 @@ pub fn count_ties(relations: &Relations) -> u16
 }
 
 // The line that tells of sound relations. Only want of memory is an error.
-pub fn summary(relations: &Relations, heap: Global) -> Result<String, fmt::Error>
+pub fn summary(relations: &Relations, heap: Global) -> Result<String, AllocError>
     ensures { IfOk result (λ s. string_bytes s ≡ summary_words (networks_of relations.now) (relation_of relations.now)) }
 {
     let networks = relations.networks();

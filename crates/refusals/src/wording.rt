@@ -3,8 +3,7 @@ ghost use Rattle.std.specs.Prelude.{◌≡◌, ◌++◌, IfOk, string_bytes, OnO
 ghost use Rattle.refusals.specs.Words.{cause_words, fault_words, number as number_of, place_words, words};
 
 use crate::refusal::{Cause, Place, Refusal};
-use std::alloc::Global;
-use std::fmt;
+use std::alloc::{AllocError, Global};
 
 impl Cause {
     // The number of the fault.
@@ -37,7 +36,7 @@ impl Cause {
     }
 }
 
-fn push_place(out: &mut String, place: Place) -> fmt::Result
+fn push_place(out: &mut String, place: Place) -> Result<(), AllocError>
     ensures { OnOk result (string_bytes out.new ≡ string_bytes out.old ++ place_words place) }
 {
     match place {
@@ -47,7 +46,7 @@ fn push_place(out: &mut String, place: Place) -> fmt::Result
     }
 }
 
-fn push_fault(out: &mut String, place: Place, cause: Cause) -> fmt::Result
+fn push_fault(out: &mut String, place: Place, cause: Cause) -> Result<(), AllocError>
     ensures { OnOk result (string_bytes out.new ≡ string_bytes out.old ++ fault_words place cause) }
 {
     let number = cause.number();
@@ -60,7 +59,7 @@ fn push_fault(out: &mut String, place: Place, cause: Cause) -> fmt::Result
 
 impl Refusal {
     // The line that tells of the refusal. Only want of memory is an error.
-    pub fn describe(&self, heap: Global) -> Result<String, fmt::Error>
+    pub fn describe(&self, heap: Global) -> Result<String, AllocError>
         ensures { IfOk result (λ s. string_bytes s ≡ words self.now) }
     {
         let mut out = String::new(heap);

@@ -5,11 +5,10 @@ ghost use Rattle.script.specs.Words.{cause_words, fault_words};
 ghost use Rattle.report.specs.Steps.{step_words};
 
 use script::push_fault;
-use std::alloc::Global;
-use std::fmt;
+use std::alloc::{AllocError, Global};
 
 // What is told of a line that is not read. Only want of memory is an error.
-pub fn line_fault(cause: script::Cause, line: usize, heap: Global) -> Result<String, fmt::Error>
+pub fn line_fault(cause: script::Cause, line: usize, heap: Global) -> Result<String, AllocError>
     ensures { IfOk result (λ text. string_bytes text ≡ fault_words (number cause) line (cause_words cause)) }
 {
     let mut out = String::new(heap);
@@ -18,7 +17,7 @@ pub fn line_fault(cause: script::Cause, line: usize, heap: Global) -> Result<Str
 }
 
 // What is told of a line that is not played. Only want of memory is an error.
-pub fn step_fault(cause: simulation::Cause, line: usize, heap: Global) -> Result<String, fmt::Error>
+pub fn step_fault(cause: simulation::Cause, line: usize, heap: Global) -> Result<String, AllocError>
     ensures { IfOk result (λ text. string_bytes text ≡ step_words cause line) }
 {
     let mut out = String::new(heap);

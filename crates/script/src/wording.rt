@@ -4,7 +4,7 @@ ghost use Rattle.script.specs.Faults.{number as number_of};
 ghost use Rattle.script.specs.Words.{cause_words, fault_words};
 
 use crate::cause::Cause;
-use std::fmt;
+use std::alloc::AllocError;
 
 impl Cause {
     // The number of the fault.
@@ -38,7 +38,7 @@ impl Cause {
 }
 
 // Appends what is told of a faulty line, as `fault 6 at line 3: nothing is in flight`. Only want of memory is an error.
-pub fn push_fault(out: &mut String, number: u8, line: usize, text: &str) -> fmt::Result
+pub fn push_fault(out: &mut String, number: u8, line: usize, text: &str) -> Result<(), AllocError>
     ensures { OnOk result (string_bytes out.new ≡ string_bytes out.old ++ fault_words number line text.now) }
 {
     write!(out, "fault {number} at line {line}: {text}")

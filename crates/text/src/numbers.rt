@@ -2,10 +2,10 @@
 ghost use Rattle.std.specs.Prelude.{◌≡◌, ◌++◌, if◌then◌else◌, string_bytes, codes, decimal, OnOk};
 ghost use Rattle.text.specs.Row.{spelled};
 
-use std::fmt;
+use std::alloc::AllocError;
 
 // Appends a number, with a comma before it unless it is the first.
-fn push_number(out: &mut String, first: bool, number: u8) -> fmt::Result
+fn push_number(out: &mut String, first: bool, number: u8) -> Result<(), AllocError>
     ensures { OnOk result (string_bytes out.new ≡ string_bytes out.old ++ (if first then decimal number else codes ", " ++ decimal number)) }
 {
     if first {
@@ -16,7 +16,7 @@ fn push_number(out: &mut String, first: bool, number: u8) -> fmt::Result
 }
 
 // Appends the numbers with commas between them. Only want of memory is an error.
-pub fn push_numbers(out: &mut String, numbers: &[u8]) -> fmt::Result
+pub fn push_numbers(out: &mut String, numbers: &[u8]) -> Result<(), AllocError>
     ensures { OnOk result (string_bytes out.new ≡ string_bytes out.old ++ spelled numbers.now) }
 {
     for (k, number) in numbers.iter().enumerate() {

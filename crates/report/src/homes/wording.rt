@@ -3,8 +3,7 @@ ghost use Rattle.std.specs.Prelude.{◌≡◌, IfOk, string_bytes};
 ghost use Rattle.report.specs.Homes.{cause_words, number as number_of, refusal_words};
 
 use crate::homes::{HomeCause, HomeRefusal};
-use std::alloc::Global;
-use std::fmt;
+use std::alloc::{AllocError, Global};
 
 impl HomeCause {
     // The number of the fault.
@@ -30,7 +29,7 @@ impl HomeCause {
 
 impl HomeRefusal {
     // The line that tells of the refusal. Only want of memory is an error.
-    pub fn describe(&self, heap: Global) -> Result<String, fmt::Error>
+    pub fn describe(&self, heap: Global) -> Result<String, AllocError>
         ensures { IfOk result (λ text. string_bytes text ≡ refusal_words self.now) }
     {
         let mut out = String::new(heap);

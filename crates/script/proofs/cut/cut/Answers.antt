@@ -17,8 +17,8 @@ returns-then-at c =
     let p : ℕ → Bool = stops c.args.stop in
     let n : c.loop-n.n ≡ prefix_len (λ b. not (p b)) bs = omega (arith, c.loop-n.invariant, prefix_len-drop_no (λ b. not (p b)) bs c.loop-n.n 0 c.loop-n-test.true (ap not (sym c.if-at.ensures))) in
     record {
-      front = c.split-at.ensures.front ∙ ap (λ m. take m bs) n ∙ sym (before_is p bs);
-      back = c.split-at.ensures.back ∙ ap (λ m. drop m bs) n ∙ sym (from_is p bs);
+      front = c.split_at.ensures.front ∙ ap (λ m. take m bs) n ∙ sym (before_is p bs);
+      back = c.split_at.ensures.back ∙ ap (λ m. drop m bs) n ∙ sym (from_is p bs);
     }
 
 pub returns : goal.returns
@@ -27,6 +27,6 @@ returns c =
     let p : ℕ → Bool = stops c.args.stop in
     let n : length bs ≡ prefix_len (λ b. not (p b)) bs = omega (arith, c.loop-n.invariant, c.loop-n.auto.n-end, c.loop-n-test.false, prefix_len-drop_all (λ b. not (p b)) bs c.loop-n.n c.loop-n-test.false) in
     record {
-      front = c.split-at-2.ensures.front ∙ ap (λ m. take m bs) n ∙ sym (before_is p bs);
-      back = c.split-at-2.ensures.back ∙ ap (λ m. drop m bs) n ∙ sym (from_is p bs);
+      front = c.split_at-2.ensures.front ∙ ap (λ m. take m bs) n ∙ sym (before_is p bs);
+      back = c.split_at-2.ensures.back ∙ ap (λ m. drop m bs) n ∙ sym (from_is p bs);
     }

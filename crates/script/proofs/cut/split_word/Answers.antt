@@ -6,14 +6,14 @@ use Rattle.script.specs.Parts.{before, from, is_blank, words}
 use Rattle.script.proofs.Cuts.{word_of, no_word}
 use Rattle.script.proofs.cut.split_word.Goals as goal
 
-pub returns-then-is-empty : goal.returns-then-is-empty
-returns-then-is-empty c =
-    no_word c.args.bytes.now (sym c.cut.ensures.back ∙ nil_from_length _ (eqb-true _ 0 (sym c.if-is-empty.ensures)))
+pub returns-then-is_empty : goal.returns-then-is_empty
+returns-then-is_empty c =
+    no_word c.args.bytes.now (sym c.cut.ensures.back ∙ nil_from_length _ (eqb-true _ 0 (sym c.if-is_empty.ensures)))
 
 pub returns : goal.returns
 returns c =
     let rest = c.cut.ensures.back in
-    let some : 0 < length c.cut.result.1.now = omega (arith, eqb-false (length c.cut.result.1.now) 0 (sym c.if-is-empty.ensures)) in
+    let some : 0 < length c.cut.result.1.now = omega (arith, eqb-false (length c.cut.result.1.now) 0 (sym c.if-is_empty.ensures)) in
     word_of c.args.bytes.now (subst (λ l. 0 < length l) rest some) ∙
     (λ i. before is_blank (sym rest i) ∷ words (from is_blank (sym rest i))) ∙
     (λ i. sym c.cut-2.ensures.front i ∷ words (sym c.cut-2.ensures.back i))

@@ -12,20 +12,20 @@ loop-byte-preserved c =
     let i : ℕ = c.loop-byte.byte-index in
     let m : ℕ = c.loop-byte.number in
     let read = is_some _ _ _ c.in-Some.ensures in
-    let next : capped c.with-digit-number.result ≡ capped (m * 10 + (get_or w i 0 - 48)) = omega (arith, c.with-digit-number.ensures, read.1) in (
-      c.with-digit-number.type-inv,
+    let next : capped c.with_digit-number.result ≡ capped (m * 10 + (get_or w i 0 - 48)) = omega (arith, c.with_digit-number.ensures, read.1) in (
+      c.with_digit-number.type_inv,
       capped_after (drop (i + 1) w) _ _ next ∙
           ap (option_map capped) (sym (after_digit m (get_or w i 0) (drop (i + 1) w) read.0)) ∙
           sym (at_drop_more (λ l. option_map capped (value_after m l)) w i 0 c.loop-byte-test.true) ∙
           c.loop-byte.invariant.1,
     )
 
-pub returns-in-default : goal.returns-in-default
-returns-in-default c =
+pub returns-in_default : goal.returns-in_default
+returns-in_default c =
     let w : List ℕ = c.args.word.now in
     let i : ℕ = c.loop-byte.byte-index in
     let m : ℕ = c.loop-byte.number in
-    ap (option_map capped) (sym (after_other m (get_or w i 0) (drop (i + 1) w) (is_none _ _ c.in-default.ensures))) ∙
+    ap (option_map capped) (sym (after_other m (get_or w i 0) (drop (i + 1) w) (is_none _ _ c.in_default.ensures))) ∙
     sym (at_drop_more (λ l. option_map capped (value_after m l)) w i 0 c.loop-byte-test.true) ∙
     c.loop-byte.invariant.1
 

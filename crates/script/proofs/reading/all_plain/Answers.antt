@@ -7,14 +7,14 @@ use Rattle.script.proofs.reading.all_plain.Goals as goal
 pub loop-byte-preserved : goal.loop-byte-preserved
 unfolding plain
 loop-byte-preserved c =
-    ap (λ t. t && plain (drop (c.loop-byte.byte-index + 1) c.args.content.now)) c.if-not-is-plain.ensures ∙
+    ap (λ t. t && plain (drop (c.loop-byte.byte-index + 1) c.args.content.now)) c.if-not-is_plain.ensures ∙
     sym (at_drop_more plain c.args.content.now c.loop-byte.byte-index 0 c.loop-byte-test.true) ∙
     c.loop-byte.invariant
 
-pub returns-then-not-is-plain : goal.returns-then-not-is-plain
+pub returns-then-not-is_plain : goal.returns-then-not-is_plain
 unfolding plain
-returns-then-not-is-plain c =
-    ap (λ t. t && plain (drop (c.loop-byte.byte-index + 1) c.args.content.now)) c.if-not-is-plain.ensures ∙
+returns-then-not-is_plain c =
+    ap (λ t. t && plain (drop (c.loop-byte.byte-index + 1) c.args.content.now)) c.if-not-is_plain.ensures ∙
     sym (at_drop_more plain c.args.content.now c.loop-byte.byte-index 0 c.loop-byte-test.true) ∙
     c.loop-byte.invariant
 

@@ -6,5 +6,5 @@ use Rattle.script.proofs.reading.is.Goals as goal
 
 pub returns : goal.returns
 returns c =
-    same_from_decides _ _ (slice_eq-Decides Decides-eqb c.args.word.now c.as-bytes.result.now _ c.eq.ensures) (bytes_eq-Decides _ _) ∙
-    ap (bytes_eq c.args.word.now) c.as-bytes.ensures.value
+    same_from_decides _ _ (slice_eq-Decides Decides-eqb c.args.word.now c.as_bytes.result.now _ c.eq.ensures) (bytes_eq-Decides _ _) ∙
+    ap (bytes_eq c.args.word.now) c.as_bytes.ensures.value

@@ -6,7 +6,7 @@ use Rattle.text.proofs.Rows.{next_number}
 use Rattle.text.proofs.numbers.push_numbers.Goals as goal
 
 pub loop-k-preserved : goal.loop-k-preserved
-loop-k-preserved c = next_number c.args.numbers.now c.loop-k.k c.loop-k-test.true _ _ _ c.loop-k.invariant c.in-ok-push-number.ensures
+loop-k-preserved c = next_number c.args.numbers.now c.loop-k.k c.loop-k-test.true _ _ _ c.loop-k.invariant c.in_ok-push_number.ensures
 
 pub returns : goal.returns
 returns c = c.loop-k.invariant ∙ ap (λ l. string_bytes c.args.out.now ++ spelled l) (take_all c.loop-k.k c.args.numbers.now c.loop-k-test.false)

@@ -4,12 +4,12 @@ use Rattle.relations.specs.Between.{between}
 use Rattle.relations.proofs.Tables.{between_none, none_hold}
 use Rattle.relations.proofs.matrix.Matrix.new.Goals as goal
 
-pub invariant-of-result : goal.invariant-of-result
-invariant-of-result c =
-    let filled = c.in-ok-rows.ensures.items-if-clones-equal (λ y e. e) in
-    let hold = none_hold _ c.at-most.result 4096 filled in
-    (c.in-ok-rows.ensures.len, (omega arith, (hold.0, (hold.1, (hold.2, tt)))))
+pub invariant_of-result : goal.invariant_of-result
+invariant_of-result c =
+    let filled = c.in_ok-rows.ensures.items_if_clones_equal (λ y e. e) in
+    let hold = none_hold _ c.at_most.result 4096 filled in
+    record { long = c.in_ok-rows.ensures.len; few = omega arith; «mutual» = hold.0; apart = hold.1; within = hold.2 }
 
 pub returns : goal.returns
 returns c =
-    (c.at-most.ensures, λ i j. ap (λ l. between l i j) (c.in-ok-rows.ensures.items-if-clones-equal (λ y e. e)) ∙ between_none 4096 i j)
+    (c.at_most.ensures, λ i j. ap (λ l. between l i j) (c.in_ok-rows.ensures.items_if_clones_equal (λ y e. e)) ∙ between_none 4096 i j)

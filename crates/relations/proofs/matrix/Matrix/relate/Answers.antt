@@ -4,11 +4,11 @@ use Rattle.std.proofs.lemmas.Bool.Decides.{nat_tests}
 use Rattle.relations.proofs.Tables.{pair_hold}
 use Rattle.relations.proofs.matrix.Matrix.relate.Goals as goal
 
-pub invariant-of-self : goal.invariant-of-self
-invariant-of-self c =
+pub invariant_of-self : goal.invariant_of-self
+invariant_of-self c =
     let m = c.args.self.now in
     let hold = pair_hold m.rows.items m.networks c.args.i c.args.j c.args.relation c.opposite.result (sym m.rows.ok.0 ∙ m.long) m.few c.if-i-self.false c.if-j-self.false c.if-i-j.false c.opposite.ensures m.«mutual» m.apart m.within in
-    (m.long, (m.few, (hold.1, (hold.2, (hold.3, tt)))))
+    record { long = m.long; few = m.few; «mutual» = hold.1; apart = hold.2; within = hold.3 }
 
 pub returns : goal.returns
 returns c =

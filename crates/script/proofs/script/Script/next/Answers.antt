@@ -8,37 +8,37 @@ use Rattle.script.proofs.Bounds.{line_within}
 use Rattle.script.proofs.Entries.{entries_next}
 use Rattle.script.proofs.Steps.{ahead_read, ahead_none, beyond_shorter}
 use Rattle.script.proofs.script.Script.next.Goals as goal
-use Rattle.script.proofs.script.Script.next.Goals.{After-read-line}
+use Rattle.script.proofs.script.Script.next.Goals.{After-read_line}
 
 -- there is a line to read
-some : (c : After-read-line) → 0 < length (left_of c.loop-limits.self)
+some : (c : After-read_line) → 0 < length (left_of c.loop-limits.self)
 some c = omega (arith, eqb-false (length (left_of c.loop-limits.self)) 0 (sym c.loop-limits-test.ensures))
 
-abbrev later : After-read-line → Ahead
-later c = ahead c.args.limits.networks c.args.limits.blocks (line_of c.take-line-line.new.self) (left_of c.take-line-line.new.self)
+abbrev later : After-read_line → Ahead
+later c = ahead c.args.limits.networks c.args.limits.blocks (line_of c.take_line-line.new.self) (left_of c.take_line-line.new.self)
 
-read : (c : After-read-line) → ahead c.args.limits.networks c.args.limits.blocks (line_of c.args.self.now) (left_of c.args.self.now) ≡ reached c.read-line.result (line_of c.take-line-line.new.self) (left_of c.take-line-line.new.self) (later c)
+read : (c : After-read_line) → ahead c.args.limits.networks c.args.limits.blocks (line_of c.args.self.now) (left_of c.args.self.now) ≡ reached c.read_line.result (line_of c.take_line-line.new.self) (left_of c.take_line-line.new.self) (later c)
 read c =
-    let line = c.take-line-line.ensures in
-    sym c.loop-limits.invariant.0 ∙ ahead_read c.args.limits.networks c.args.limits.blocks (line_of c.loop-limits.self) _ (left_of c.loop-limits.self) _ _ _ (some c) line.text line.left line.line c.read-line.ensures
+    let line = c.take_line-line.ensures in
+    sym c.loop-limits.invariant.0 ∙ ahead_read c.args.limits.networks c.args.limits.blocks (line_of c.loop-limits.self) _ (left_of c.loop-limits.self) _ _ _ (some c) line.text line.left line.line c.read_line.ensures
 
-less : (c : After-read-line) → length (left_of c.take-line-line.new.self) < length (left_of c.loop-limits.self)
-less c = omega (arith, ap length c.take-line-line.ensures.left, beyond_shorter (left_of c.loop-limits.self) (some c))
+less : (c : After-read_line) → length (left_of c.take_line-line.new.self) < length (left_of c.loop-limits.self)
+less c = omega (arith, ap length c.take_line-line.ensures.left, beyond_shorter (left_of c.loop-limits.self) (some c))
 
 pub loop-limits-smaller : goal.loop-limits-smaller
-loop-limits-smaller c = less (goal.at.loop-limits-smaller c).After-read-line
+loop-limits-smaller c = less (goal.at.loop-limits-smaller c).After-read_line
 
 pub loop-limits-preserved : goal.loop-limits-preserved
 loop-limits-preserved c =
-    let a = (goal.at.loop-limits-preserved c).After-read-line in
-    let empty = c.in-ok-command.was ∙ ap (λ o. Ok o) c.in-default.is in
-    (sym (read a ∙ ap (λ r. reached r (line_of c.take-line-line.new.self) (left_of c.take-line-line.new.self) (later a)) empty), omega (arith, less a, c.loop-limits.invariant.1))
+    let a = (goal.at.loop-limits-preserved c).After-read_line in
+    let empty = c.in_ok-command.was ∙ ap (λ o. Ok o) c.in_default.is in
+    (sym (read a ∙ ap (λ r. reached r (line_of c.take_line-line.new.self) (left_of c.take_line-line.new.self) (later a)) empty), omega (arith, less a, c.loop-limits.invariant.1))
 
 pub returns-in-loop-limits : goal.returns-in-loop-limits
 returns-in-loop-limits c =
-    let a = (goal.at.returns-in-loop-limits c).After-read-line in
-    let one = c.in-ok-command.was ∙ ap (λ o. Ok o) c.in-Some.is in
-    let all = read a ∙ ap (λ r. reached r (line_of c.take-line-line.new.self) (left_of c.take-line-line.new.self) (later a)) one in
+    let a = (goal.at.returns-in-loop-limits c).After-read_line in
+    let one = c.in_ok-command.was ∙ ap (λ o. Ok o) c.in-Some.is in
+    let all = read a ∙ ap (λ r. reached r (line_of c.take_line-line.new.self) (left_of c.take_line-line.new.self) (later a)) one in
     let answer = sym (ap (λ x. x.answer) all) in
     let line = sym (ap (λ x. x.line) all) in
     let left = sym (ap (λ x. x.left) all) in
@@ -47,16 +47,16 @@ returns-in-loop-limits c =
       line = line;
       left = left;
       whole = entries_next _ _ _ _ _ _ _ answer line left;
-      within = line_within c.args.limits.networks c.args.limits.blocks c.take-line-line.result.now c.in-Some.command (sym c.read-line.ensures ∙ one);
+      within = line_within c.args.limits.networks c.args.limits.blocks c.take_line-line.result.now c.in-Some.command (sym c.read_line.ensures ∙ one);
       falls = omega (arith, less a, c.loop-limits.invariant.1);
     }
 
-pub returns-in-err-command : goal.returns-in-err-command
-returns-in-err-command c =
-    let a = (goal.at.returns-in-err-command c).After-read-line in
-    let p = err_from_is_err_and c.from-residual.result c.from-residual.ensures.1 in
+pub returns-in_err-command : goal.returns-in_err-command
+returns-in_err-command c =
+    let a = (goal.at.returns-in_err-command c).After-read_line in
+    let p = err_from_is_err_and c.from_residual.result c.from_residual.ensures.1 in
     let told = p.1 ∙ ap (λ e. Err e) p.2 in
-    let all = read a ∙ ap (λ r. reached r (line_of c.take-line-line.new.self) (left_of c.take-line-line.new.self) (later a)) c.in-err-command.was in
+    let all = read a ∙ ap (λ r. reached r (line_of c.take_line-line.new.self) (left_of c.take_line-line.new.self) (later a)) c.in_err-command.was in
     let answer = told ∙ sym (ap (λ x. x.answer) all) in
     let line = sym (ap (λ x. x.line) all) in
     let left = sym (ap (λ x. x.left) all) in
@@ -66,7 +66,7 @@ returns-in-err-command c =
       left = left;
       whole = entries_next _ _ _ _ _ _ _ answer line left;
       within = subst (Bounded c.args.limits.networks c.args.limits.blocks) (sym told) tt;
-      falls = subst (λ r. Falls r (length (left_of c.args.self.now)) (length (left_of c.take-line-line.new.self))) (sym told) (omega (arith, less a, c.loop-limits.invariant.1));
+      falls = subst (λ r. Falls r (length (left_of c.args.self.now)) (length (left_of c.take_line-line.new.self))) (sym told) (omega (arith, less a, c.loop-limits.invariant.1));
     }
 
 pub returns : goal.returns

@@ -3,8 +3,8 @@ use Rattle.script.specs.Next.{left_of}
 use Rattle.script.proofs.Steps.{beyond, beyond_shorter}
 use Rattle.script.proofs.script.Script.take_line.Goals as goal
 
-pub invariant-of-self : goal.invariant-of-self
-invariant-of-self c =
+pub invariant_of-self : goal.invariant_of-self
+invariant_of-self c =
     let s = c.args.self.now in
-    let left : c.after-feed.result.now ≡ beyond (left_of s) = c.after-feed.ensures ∙ ap (drop 1) c.cut.ensures.back in
-    (omega (arith, s.fits, ap length left, beyond_shorter (left_of s) c.requires), tt)
+    let left : c.after_feed.result.now ≡ beyond (left_of s) = c.after_feed.ensures ∙ ap (drop 1) c.cut.ensures.back in
+    record { fits = omega (arith, s.fits, ap length left, beyond_shorter (left_of s) c.requires) }
