@@ -8,7 +8,7 @@ use Rattle.advertisement.specs.Audiences.{in_audience}
 use Rattle.advertisement.specs.Telling.{tells, told}
 use Rattle.advertisement.proofs.Turns.{Below, Heard, next}
 use Rattle.advertisement.proofs.telling.advertise.Goals as goal
-use Rattle.advertisement.proofs.telling.advertise.Goals.{then-tell-if-up, else-tell-if-up}
+use Rattle.advertisement.proofs.telling.advertise.Goals.{then-tell_if_up, else-tell_if_up}
 
 pub loop-k-preserved : goal.loop-k-preserved
 loop-k-preserved c =
@@ -20,15 +20,15 @@ loop-k-preserved c =
     let new = told rel c.args.me k (meaning c.args.route) in
     let few = c.args.relations.now.matrix.few in
     let below : k < 64 = omega (arith, c.networks-k-end.ensures) in
-    let adds : (j : ℕ) → in_audience c.if-tell-if-up.audience j ≡ (in_audience c.loop-k.audience j || (c.tell-if-up.result && eqb j k)) =
-    elim c.if-tell-if-up.branch [
-      | then-tell-if-up w ↦ λ j. let e = ap (λ a. in_audience a j) w.audience-is ∙ w.insert.ensures j in grind (arith, tests, e, below, w.if-tell-if-up.true)
-      | else-tell-if-up w ↦ λ j. let e = ap (λ a. in_audience a j) w.audience-is in grind (arith, tests, e, w.if-tell-if-up.false)
+    let adds : (j : ℕ) → in_audience c.if-tell_if_up.audience j ≡ (in_audience c.loop-k.audience j || (c.tell_if_up.result && eqb j k)) =
+    elim c.if-tell_if_up.branch [
+      | then-tell_if_up w ↦ λ j. let e = ap (λ a. in_audience a j) w.audience-is ∙ w.insert.ensures j in grind (arith, tests, e, below, w.if-tell_if_up.true)
+      | else-tell_if_up w ↦ λ j. let e = ap (λ a. in_audience a j) w.audience-is in grind (arith, tests, e, w.if-tell_if_up.false)
     ] in
     let turn =
     next (row before) (count before) c.args.block up says k (row c.loop-k.advertised) (in_audience c.loop-k.audience) c.loop-k.invariant.0 c.loop-k.invariant.1 (count c.loop-k.advertised) c.loop-k.invariant.2 below new refl
-    c.tell-if-up.result c.tell-if-up.ensures.test (row c.tell-if-up.new.advertised) c.tell-if-up.ensures.after (in_audience c.if-tell-if-up.audience) adds in
-    (turn.0, turn.1, c.tell-if-up.ensures.same ∙ c.loop-k.invariant.2)
+    c.tell_if_up.result c.tell_if_up.ensures.test (row c.tell_if_up.new.advertised) c.tell_if_up.ensures.after (in_audience c.if-tell_if_up.audience) adds in
+    (turn.0, turn.1, c.tell_if_up.ensures.same ∙ c.loop-k.invariant.2)
 
 pub returns : goal.returns
 returns c =

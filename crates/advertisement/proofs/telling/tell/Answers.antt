@@ -9,9 +9,9 @@ use Rattle.advertisement.specs.Telling.{told}
 use Rattle.advertisement.proofs.Sayings.{as_written}
 use Rattle.advertisement.proofs.telling.tell.Goals as goal
 
-pub returns-then-is-told : goal.returns-then-is-told
-returns-then-is-told c =
+pub returns-then-is_told : goal.returns-then-is_told
+returns-then-is_told c =
     let t = c.args.advertised.now in
     let says = told (relation_of c.args.relations.now c.args.me) c.args.me c.args.neighbour (meaning c.args.route) in
-    let e : same_saying says (row t c.args.block c.args.neighbour) ≡ true = sym (c.if-is-told.ensures ∙ (λ i. same_saying (c.onward-path.ensures.told i) (c.path.ensures i))) in
+    let e : same_saying says (row t c.args.block c.args.neighbour) ≡ true = sym (c.if-is_told.ensures ∙ (λ i. same_saying (c.onward-path.ensures.told i) (c.path.ensures i))) in
     record { test = grind (arith, nat_tests, e); same = refl; after = as_written (row t) (count t) c.args.block c.args.neighbour says e; kept = refl }

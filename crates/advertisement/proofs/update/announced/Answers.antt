@@ -5,5 +5,5 @@ use Rattle.advertisement.proofs.update.announced.Goals as goal
 
 pub returns : goal.returns
 returns c =
-    let e = c.copy-from-slice.ensures.after in
-    (refl, ap Some (ap (take _) (append_assoc c.copy-from-slice.new.self _ _) ∙ take_at c.copy-from-slice.new.self _ _ (ap length e) ∙ e))
+    let e = c.copy_from_slice.ensures.after in
+    (refl, ap Some (ap (take _) (append_assoc c.copy_from_slice.new.self _ _) ∙ take_at c.copy_from_slice.new.self _ _ (ap length e) ∙ e))

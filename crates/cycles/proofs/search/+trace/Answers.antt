@@ -14,6 +14,6 @@ returns t c =
     let old = vec_items c.args.ring.now in
     let mid = vec_items c.push.new.self in
     let new = vec_items c.trace.new.ring in
-    IfOk-weaker c.trace.result (λ _. Traced (rel c.args.matrix.now) c.args.low c.next-up-next.result (c.args.left - 1) mid new) (λ _. Traced (rel c.args.matrix.now) c.args.low c.args.at c.args.left old new)
-    (λ _ way. traced_more _ _ _ _ _ _ old mid new (omega arith) c.next-up-next.ensures c.in-ok-push.ensures.items way)
+    IfOk-weaker c.trace.result (λ _. Traced (rel c.args.matrix.now) c.args.low c.next_up-next.result (c.args.left - 1) mid new) (λ _. Traced (rel c.args.matrix.now) c.args.low c.args.at c.args.left old new)
+    (λ _ way. traced_more _ _ _ _ _ _ old mid new (omega arith) c.next_up-next.ensures c.in_ok-push.ensures.items way)
     c.trace.ensures

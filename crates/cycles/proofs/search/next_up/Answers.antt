@@ -13,13 +13,13 @@ use Rattle.cycles.proofs.search.next_up.Goals.{then-provides+else-steps-low, els
 pub returns-then-steps-low : goal.returns-then-steps-low
 returns-then-steps-low c =
     let up = is_provider (rel c.args.matrix.now c.args.at c.loop-v.v) (sym c.if-provides.ensures) in
-    record { up = up; high = c.loop-v.auto.v; on = goes_on _ _ _ _ _ _ c.requires.some.1 c.requires.short up c.loop-v.auto.v c.walk-up.ensures (omega arith); lowest = c.loop-v.invariant }
+    record { up = up; high = c.loop-v.auto.v; on = goes_on _ _ _ _ _ _ c.requires.some.1 c.requires.short up c.loop-v.auto.v c.walk_up.ensures (omega arith); lowest = c.loop-v.invariant }
 
 -- the network that the loop is at
 here : (c : goal.Joined-provides) → rel c.args.matrix.now c.args.at c.loop-v.v ≡ Provider → Climb (rel c.args.matrix.now) c.args.low c.args.left c.loop-v.v c.args.low → ⊥
 here c up walk =
     elim c.if-provides.branch [
-      | then-provides+else-steps-low w ↦ goes_not _ _ _ _ _ _ c.requires.some.1 c.requires.short up c.loop-v.auto.v w.walk-up.ensures w.if-steps-low.false walk
+      | then-provides+else-steps-low w ↦ goes_not _ _ _ _ _ _ c.requires.some.1 c.requires.short up c.loop-v.auto.v w.walk_up.ensures w.if-steps-low.false walk
       | else-provides w ↦ not_provider _ (sym w.if-provides.ensures) up
     ]
 

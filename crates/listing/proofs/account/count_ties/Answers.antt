@@ -9,4 +9,4 @@ loop-i-init c = (refl, omega arith)
 
 pub loop-i-preserved : goal.loop-i-preserved
 loop-i-preserved c =
-    (length_gather_more (row (networks c.args.relations.now) (relation c.args.relations.now)) c.loop-i.i _ _ c.loop-i.invariant.0 c.count-row-count.ensures.0, omega (arith, c.loop-i.invariant.1, c.count-row-count.ensures.1))
+    (length_gather_more (row (networks c.args.relations.now) (relation c.args.relations.now)) c.loop-i.i _ _ c.loop-i.invariant.0 c.count_row-count.ensures.0, omega (arith, c.loop-i.invariant.1, c.count_row-count.ensures.1))

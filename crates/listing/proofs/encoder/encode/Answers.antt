@@ -10,8 +10,8 @@ pub head-requires : goal.head-requires
 head-requires c =
     let r = c.args.relations.now in
     let list = listing (networks r) (relation r) in
-    let body : vec_items c.push-ties.new.out ≡ flat_map bytes_of list = c.in-ok-push-ties.ensures ∙ ap (λ l. l ++ flat_map bytes_of list) c.new-ties.ensures.items in
-    let long : c.len-count.result ≡ 3 * length list = c.len-count.ensures ∙ c.push-ties.new.out.ok.0 ∙ ap length body ∙ length_bytes list in
+    let body : vec_items c.push_ties.new.out ≡ flat_map bytes_of list = c.in_ok-push_ties.ensures ∙ ap (λ l. l ++ flat_map bytes_of list) c.new-ties.ensures.items in
+    let long : c.len-count.result ≡ 3 * length list = c.len-count.ensures ∙ c.push_ties.new.out.ok.0 ∙ ap length body ∙ length_bytes list in
     let short = listing_short (networks r) (relation r) r.matrix.few in
     omega arith
 
@@ -19,9 +19,9 @@ pub returns : goal.returns
 returns c =
     let r = c.args.relations.now in
     let list = listing (networks r) (relation r) in
-    let body : vec_items c.push-ties.new.out ≡ flat_map bytes_of list = c.in-ok-push-ties.ensures ∙ ap (λ l. l ++ flat_map bytes_of list) c.new-ties.ensures.items in
-    let long : c.len-count.result ≡ 3 * length list = c.len-count.ensures ∙ c.push-ties.new.out.ok.0 ∙ ap length body ∙ length_bytes list in
+    let body : vec_items c.push_ties.new.out ≡ flat_map bytes_of list = c.in_ok-push_ties.ensures ∙ ap (λ l. l ++ flat_map bytes_of list) c.new-ties.ensures.items in
+    let long : c.len-count.result ≡ 3 * length list = c.len-count.ensures ∙ c.push_ties.new.out.ok.0 ∙ ap length body ∙ length_bytes list in
     let count : c.len-count.result / 3 ≡ length list = omega arith in
-    c.in-ok-extend-from-slice-2.ensures.items ∙
-    (λ i. (c.in-ok-extend-from-slice.ensures.items ∙ (λ k. c.new-out.ensures.items k ++ c.head.ensures k)) i ++ (c.as-slice.ensures.value ∙ body) i) ∙
+    c.in_ok-extend_from_slice-2.ensures.items ∙
+    (λ i. (c.in_ok-extend_from_slice.ensures.items ∙ (λ k. c.new-out.ensures.items k ++ c.head.ensures k)) i ++ (c.as_slice.ensures.value ∙ body) i) ∙
     (λ i. 16 ∷ c.networks.ensures i ∷ count i / 256 ∷ count i % 256 ∷ flat_map bytes_of list)

@@ -11,12 +11,12 @@ use Rattle.listing.proofs.encoder.push_row.Goals as goal
 pub loop-j-init : goal.loop-j-init
 loop-j-init c = sym (append-nil _)
 
-pub returns-in-err-push-tie : goal.returns-in-err-push-tie
-returns-in-err-push-tie c = let p = err_from_is_err_and c.from-residual.result c.from-residual.ensures.1 in rw p.1 tt
+pub returns-in_err-push_tie : goal.returns-in_err-push_tie
+returns-in_err-push_tie c = let p = err_from_is_err_and c.from_residual.result c.from_residual.ensures.1 in rw p.1 tt
 
 pub loop-j-preserved : goal.loop-j-preserved
 loop-j-preserved c =
-    gather_joined bytes_of (λ j. listed (relation c.args.relations.now c.args.i j) c.args.i j) c.loop-j.j _ _ _ c.loop-j.invariant (c.in-ok-push-tie.ensures ∙ ap (λ r. vec_items c.loop-j.out ++ flat_map bytes_of (listed r c.args.i c.loop-j.j)) c.relation.ensures)
+    gather_joined bytes_of (λ j. listed (relation c.args.relations.now c.args.i j) c.args.i j) c.loop-j.j _ _ _ c.loop-j.invariant (c.in_ok-push_tie.ensures ∙ ap (λ r. vec_items c.loop-j.out ++ flat_map bytes_of (listed r c.args.i c.loop-j.j)) c.relation.ensures)
 
 pub returns : goal.returns
 returns c =

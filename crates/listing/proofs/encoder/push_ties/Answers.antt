@@ -10,4 +10,4 @@ loop-i-init c = sym (append-nil _)
 
 pub loop-i-preserved : goal.loop-i-preserved
 loop-i-preserved c =
-    gather_joined bytes_of (row (networks c.args.relations.now) (relation c.args.relations.now)) c.loop-i.i _ _ _ c.loop-i.invariant c.in-ok-push-row.ensures
+    gather_joined bytes_of (row (networks c.args.relations.now) (relation c.args.relations.now)) c.loop-i.i _ _ _ c.loop-i.invariant c.in_ok-push_row.ensures

@@ -10,7 +10,7 @@ use Rattle.links.specs.Local.{retold, sends}
 use Rattle.links.proofs.Receiving.{same_world}
 use Rattle.links.proofs.Turning.{forgotten_is, turned_is, no_turning_fault, is_related}
 use Rattle.links.proofs.router.Router.turn.Goals as goal
-use Rattle.links.proofs.router.Router.turn.Goals.{in-Unrelated, in-default}
+use Rattle.links.proofs.router.Router.turn.Goals.{in-Unrelated, in_default}
 
 pub returns : goal.returns
 returns c =
@@ -20,14 +20,14 @@ returns c =
     let s = held c.args.self t in
     let then = c.forget.new.tables in
     let place = same_world r then t c.forget.ensures.homes in
-    let lost : held c.with-link-router.result then ≡ forgotten c.args.other c.args.up s = forgotten_is s (held c.with-link-router.result then) c.args.other c.args.up c.with-link-router.ensures.links c.forget.ensures.received c.forget.ensures.advertised in
-    let number = c.with-link-router.ensures.number in
-    let tied : related (relation r me c.args.other) ≡ true = elim c.match-matches.branch [ in-Unrelated w ↦ absurd (both_ways _ c.if-matches.false w.matches-is) | in-default w ↦ is_related _ (λ e. w.in-default.not-Unrelated (c.relation.ensures ∙ e)) ] in
+    let lost : held c.with_link-router.result then ≡ forgotten c.args.other c.args.up s = forgotten_is s (held c.with_link-router.result then) c.args.other c.args.up c.with_link-router.ensures.links c.forget.ensures.received c.forget.ensures.advertised in
+    let number = c.with_link-router.ensures.number in
+    let tied : related (relation r me c.args.other) ≡ true = elim c.match-matches.branch [ in-Unrelated w ↦ absurd (both_ways _ c.if-matches.false w.matches-is) | in_default w ↦ is_related _ (λ e. w.in_default.not-Unrelated (c.relation.ensures ∙ e)) ] in
     let none : turning_fault (world r t) me c.args.other ≡ None = no_turning_fault (world r t) me c.args.other (search rules) tied in
     record {
       number = number;
-      homes = c.retell-all.ensures.homes ∙ c.forget.ensures.homes;
-      held = c.retell-all.ensures.held ∙ (λ x. retold (place x) (number x) every (lost x)) ∙ turned_is (world r t) me c.args.other c.args.up s none;
-      answer = (none, λ b k d h. c.retell-all.ensures.whom b k d (subst (λ l. b < vec_len l) (sym c.forget.ensures.homes) h) ∙ (λ x. sends (place x) (number x) every (lost x) b k));
+      homes = c.retell_all.ensures.homes ∙ c.forget.ensures.homes;
+      held = c.retell_all.ensures.held ∙ (λ x. retold (place x) (number x) every (lost x)) ∙ turned_is (world r t) me c.args.other c.args.up s none;
+      answer = (none, λ b k d h. c.retell_all.ensures.whom b k d (subst (λ l. b < vec_len l) (sym c.forget.ensures.homes) h) ∙ (λ x. sends (place x) (number x) every (lost x) b k));
       kept = tt;
     }

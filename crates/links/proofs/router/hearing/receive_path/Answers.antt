@@ -19,7 +19,7 @@ returns-in-Some c =
       rows = λ b k. when_true _ _ done c.set.ensures.after b k ∙ ap (λ p. with_row (row t) a.block c.args.from (Some p) b k) (sym path.1);
     }
 
-pub returns-in-default : goal.returns-in-default
-returns-in-default c =
-    let z : ◌≡◌ {A = ℕ} 0 1 = has_path c.args.received.now c.args.from c.args.announced.now c.in-default.ensures c.requires in
+pub returns-in_default : goal.returns-in_default
+returns-in_default c =
+    let z : ◌≡◌ {A = ℕ} 0 1 = has_path c.args.received.now c.args.from c.args.announced.now c.in_default.ensures c.requires in
     absurd (omega arith)

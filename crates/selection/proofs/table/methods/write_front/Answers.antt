@@ -4,4 +4,4 @@ use Rattle.std.proofs.Common.{arith}
 use Rattle.selection.proofs.table.methods.write_front.Goals as goal
 
 pub returns : goal.returns
-returns c k = put_front c.args.part.now c.write-path.new.part c.args.path.now c.args.first k (omega arith) c.write-path.ensures
+returns c k = put_front c.args.part.now c.write_path.new.part c.args.path.now c.args.first k (omega arith) c.write_path.ensures
