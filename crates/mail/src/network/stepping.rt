@@ -62,7 +62,7 @@ impl Network {
     ) -> Result<Network, AllocError>
         ensures { IfOk result (Stepped self.now (after_hearing (ground_of relations.now self.now) (number_of self.now) from (news update) (local self.now)) (outbox_on_hearing (ground_of relations.now self.now) (number_of self.now) from (news update) (local self.now)) letters.old.items letters.new.items) }
     {
-        let mut tables = self.tables.duplicate(letters.allocator())?;
+        let mut tables = self.tables.duplicate(*letters.allocator())?;
         let (router, heard) = self.router.hear(relations, &mut tables, from, update);
         let (me, networks) = (self.router.number(), relations.networks());
         send_heard(letters, me, networks, &tables, update.block(), heard)?;
@@ -79,7 +79,7 @@ impl Network {
     ) -> Result<Network, AllocError>
         ensures { IfOk result (Stepped self.now (after_turning (ground_of relations.now self.now) (number_of self.now) other up (local self.now)) (outbox_on_turning (ground_of relations.now self.now) (number_of self.now) other up (local self.now)) letters.old.items letters.new.items) }
     {
-        let mut tables = self.tables.duplicate(letters.allocator())?;
+        let mut tables = self.tables.duplicate(*letters.allocator())?;
         let (router, turned) = self.router.turn(relations, &mut tables, other, up);
         let (me, networks) = (self.router.number(), relations.networks());
         send_turned(letters, me, networks, &tables, turned)?;

@@ -7,4 +7,4 @@ use Rattle.mail.proofs.Posted.{posted_more}
 use Rattle.mail.proofs.posting.post.Goals as goal
 
 pub loop-to-preserved : goal.loop-to-preserved
-loop-to-preserved c = posted_more (addressed c.args.from c.args.block (in_audience c.args.audience) (row c.args.tables.now.advertised c.args.block)) (posts (vec_items c.args.letters.now)) c.loop-to.to _ _ c.loop-to.invariant c.in-ok-post-to.ensures
+loop-to-preserved c = posted_more (addressed c.args.from c.args.block (in_audience c.args.audience) (row c.args.tables.now.advertised c.args.block)) (posts (vec_items c.args.letters.now)) c.loop-to.to _ _ c.loop-to.invariant c.in_ok-post_to.ensures

@@ -10,7 +10,7 @@ use Rattle.mail.proofs.posting.post_all.Goals as goal
 pub loop-block-preserved : goal.loop-block-preserved
 loop-block-preserved c =
     let t = c.args.tables.now in
-    posted_more (λ b. mailing c.args.from b (whom (vec_items t.audiences) b) (row t.advertised b) c.args.networks) (posts (vec_items c.args.letters.now)) c.loop-block.block _ _ c.loop-block.invariant c.in-ok-post-block.ensures
+    posted_more (λ b. mailing c.args.from b (whom (vec_items t.audiences) b) (row t.advertised b) c.args.networks) (posts (vec_items c.args.letters.now)) c.loop-block.block _ _ c.loop-block.invariant c.in_ok-post_block.ensures
 
 pub returns : goal.returns
 returns c =

@@ -9,4 +9,4 @@ pub returns : goal.returns
 returns c =
     let t = c.args.tables.now in
     let same = by_audience (vec_items t.audiences) c.args.block c.in-Some.audience (omega (arith, c.in-Some.ensures.0, t.audiences.ok.0, t.whom)) c.in-Some.ensures.1 in
-    c.in-ok-post.ensures ∙ ap (λ w. posts (vec_items c.args.letters.now) ++ mailing c.args.from c.args.block w (row t.advertised c.args.block) c.args.networks) (sym same)
+    c.in_ok-post.ensures ∙ ap (λ w. posts (vec_items c.args.letters.now) ++ mailing c.args.from c.args.block w (row t.advertised c.args.block) c.args.networks) (sym same)

@@ -5,7 +5,7 @@ use Rattle.ties.proofs.decoder.read_ties.Goals as goal
 
 pub loop-k-init : goal.loop-k-init
 loop-k-init c =
-    let made = c.in-ok-matrix.ensures in
+    let made = c.in_ok-matrix.ensures in
     sofar_none _ _ _ refl c.requires.start (omega (arith, made.0, c.requires.few, c.requires.networks)) made.1
 
 pub returns-in-Err : goal.returns-in-Err

@@ -15,7 +15,7 @@ returns-in-Some-fault c =
     let whole : p + 2 < length bs = search rules in
     let one : c.in-Some.first ≡ get_or bs p 0 = search rules in
     let other : c.in-Some-byte.second ≡ get_or bs (p + 1) 0 = search rules in
-    let kind : c.in-Some-byte-2.kind ≡ get_or bs (p + 2) 0 = search rules in
+    let kind : c.in-Some-byte-2.kind ≡ get_or bs (p + 2) 0 = ? in
     let kinds : Kinds (get_or bs (p + 2) 0) c.match-kind.relation = elim c.match-kind.branch [ in-1 w ↦ inl (sym kind ∙ w.in-1.is, w.relation-is) | in-2 w ↦ inr (sym kind ∙ w.in-2.is, w.relation-is) ] in
     let m = c.args.matrix.now in
     record {
