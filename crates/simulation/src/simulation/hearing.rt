@@ -31,7 +31,7 @@ impl Simulation {
         let Some((place, update)) = oldest(self.letters.as_slice(), from, to) else {
             return Err(Cause::NothingInFlight);
         };
-        let mut letters = without(self.letters.as_slice(), place, self.letters.allocator())?;
+        let mut letters = without(self.letters.as_slice(), place, *self.letters.allocator())?;
         let network = self.networks[to as usize].hear(&self.relations, from, update, &mut letters)?;
         Ok((network, letters))
     }

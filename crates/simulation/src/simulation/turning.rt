@@ -27,7 +27,7 @@ impl Simulation {
             self.letters.as_slice(),
             one,
             other,
-            self.letters.allocator(),
+            *self.letters.allocator(),
         )?;
         let (first, second) = turn_both(
             &self.relations,

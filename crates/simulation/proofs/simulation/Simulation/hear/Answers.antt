@@ -14,23 +14,23 @@ use Rattle.simulation.proofs.Lessening.{heard_lessens}
 use Rattle.simulation.proofs.Reaching.{heard_ready}
 use Rattle.simulation.proofs.simulation.Simulation.hear.Goals as goal
 
-pub returns-then-too-many : goal.returns-then-too-many
-returns-then-too-many c =
+pub returns-then-too_many : goal.returns-then-too_many
+returns-then-too_many c =
     let x = c.args.self.now in
-    let done = c.in-ok-network.ensures in
-    let ls = vec_items c.in-ok-network.letters in
+    let done = c.in_ok-network.ensures in
+    let ls = vec_items c.in_ok-network.letters in
     let many = counted (networks x.relations) (posts ls) done.2.within in
     let same = ap (afloat (world_of x)) done.2.state in
-    record { world = refl; played = ((done.0, done.1, omega (arith, many, same, length-map ls meant, c.in-ok-network.letters.ok.0, ltb-true 4096 _ (sym c.too-many.ensures ∙ c.if-too-many.true), c.as-slice.ensures.len)), refl); falls = tt }
+    record { world = refl; played = ((done.0, done.1, omega (arith, many, same, length-map ls meant, c.in_ok-network.letters.ok.0, ltb-true 4096 _ (sym c.too_many.ensures ∙ c.if-too_many.true), c.as_slice.ensures.len)), refl); falls = tt }
 
 pub place-requires : goal.place-requires
-place-requires c = let done = c.in-ok-network.ensures in heard_ready c.args.self.now c.args.from c.args.to c.in-ok-network.network (vec_items c.in-ok-network.letters) done.0 done.1 done.2
+place-requires c = let done = c.in_ok-network.ensures in heard_ready c.args.self.now c.args.from c.args.to c.in_ok-network.network (vec_items c.in_ok-network.letters) done.0 done.1 done.2
 
 pub returns : goal.returns
 returns c =
     let x = c.args.self.now in
-    let done = c.in-ok-network.ensures in
-    let ls = vec_items c.in-ok-network.letters in
+    let done = c.in_ok-network.ensures in
+    let ls = vec_items c.in_ok-network.letters in
     let many = counted (networks x.relations) (posts ls) done.2.within in
     let state = c.place.ensures.state in
     let same = ap (afloat (world_of x)) state in
@@ -39,7 +39,7 @@ returns c =
       played = record {
         below = done.0;
         some = done.1;
-        room = omega (arith, many, same, length-map ls meant, c.in-ok-network.letters.ok.0, ltb-false 4096 _ (sym c.too-many.ensures ∙ c.if-too-many.false), c.as-slice.ensures.len);
+        room = omega (arith, many, same, length-map ls meant, c.in_ok-network.letters.ok.0, ltb-false 4096 _ (sym c.too_many.ensures ∙ c.if-too_many.false), c.as_slice.ensures.len);
         step = state ∙ done.2.state;
       };
       falls = heard_lessens x c.args.from c.args.to _ done.0 done.1 (state ∙ done.2.state);

@@ -3,10 +3,10 @@ use Rattle.std.proofs.Common.{vec_items}
 use Rattle.simulation.proofs.Wholes.{homes_set, number_set}
 use Rattle.simulation.proofs.simulation.Simulation.place.Goals as goal
 
-pub invariant-of-self : goal.invariant-of-self
-invariant-of-self c =
+pub invariant_of-self : goal.invariant_of-self
+invariant_of-self c =
     let x = c.args.self.now in
     let ready = c.requires in
     let numbers = number_set (vec_items x.networks) c.args.number c.args.network ready.number x.numbers in
     let homes = homes_set (vec_items x.networks) c.args.number c.args.network (vec_items x.homes) ready.homes x.same in
-    (x.all, (x.few, (x.blocks, (numbers, (homes, (ready.within, (ready.reached, tt)))))))
+    record { all = x.all; few = x.few; blocks = x.blocks; numbers = numbers; same = homes; within = ready.within; reached = ready.reached }

@@ -14,41 +14,41 @@ use Rattle.simulation.proofs.Reaching.{turned_reach}
 use Rattle.simulation.proofs.Wholes.{homes_set, number_set}
 use Rattle.simulation.proofs.simulation.Simulation.turn.Goals as goal
 
-pub returns-then-too-many : goal.returns-then-too-many
-returns-then-too-many c =
+pub returns-then-too_many : goal.returns-then-too_many
+returns-then-too_many c =
     let x = c.args.self.now in
-    let done = c.in-ok-first.ensures in
-    let ls = vec_items c.in-ok-first.letters in
+    let done = c.in_ok-first.ensures in
+    let ls = vec_items c.in_ok-first.letters in
     let many = counted (networks x.relations) (posts ls) done.2.within in
     let same = ap (afloat (world_of x)) done.2.state in
-    record { world = refl; played = ((done.0, done.1, omega (arith, many, same, length-map ls meant, c.in-ok-first.letters.ok.0, ltb-true 4096 _ (sym c.too-many.ensures ∙ c.if-too-many.true), c.as-slice.ensures.len)), refl) }
+    record { world = refl; played = ((done.0, done.1, omega (arith, many, same, length-map ls meant, c.in_ok-first.letters.ok.0, ltb-true 4096 _ (sym c.too_many.ensures ∙ c.if-too_many.true), c.as_slice.ensures.len)), refl) }
 
-pub invariant-of-self : goal.invariant-of-self
-invariant-of-self c =
+pub invariant_of-self : goal.invariant_of-self
+invariant_of-self c =
     let x = c.args.self.now in
     let i = c.args.one in
     let j = c.args.other in
-    let y = c.in-ok-first.first in
-    let z = c.in-ok-first.second in
+    let y = c.in_ok-first.first in
+    let z = c.in_ok-first.second in
     let xs = vec_items x.networks in
-    let done = c.in-ok-first.ensures in
+    let done = c.in_ok-first.ensures in
     let numbers = number_set (set xs j z) i y done.2.number (number_set xs j z done.2.number2 x.numbers) in
     let homes = homes_set (set xs j z) i y (vec_items x.homes) done.2.homes (homes_set xs j z (vec_items x.homes) done.2.homes2 x.same) in
     let reached = ∥∥₁_map x.reached (λ r. subst (Reach (world_of x) nowhere) (sym done.2.state) (turned_reach (world_of x) i j c.args.up (state_of x) (x.relations.matrix.apart i) done.0 done.1 r)) in
-    (x.all, (x.few, (x.blocks, (numbers, (homes, (done.2.within, (reached, tt)))))))
+    record { all = x.all; few = x.few; blocks = x.blocks; numbers = numbers; same = homes; within = done.2.within; reached = reached }
 
 pub returns : goal.returns
 returns c =
     let x = c.args.self.now in
-    let done = c.in-ok-first.ensures in
-    let ls = vec_items c.in-ok-first.letters in
+    let done = c.in_ok-first.ensures in
+    let ls = vec_items c.in_ok-first.letters in
     let many = counted (networks x.relations) (posts ls) done.2.within in
     record {
       world = refl;
       played = record {
         below = done.0;
         tied = done.1;
-        room = omega (arith, many, length-map ls meant, c.in-ok-first.letters.ok.0, ltb-false 4096 _ (sym c.too-many.ensures ∙ c.if-too-many.false), c.as-slice.ensures.len);
+        room = omega (arith, many, length-map ls meant, c.in_ok-first.letters.ok.0, ltb-false 4096 _ (sym c.too_many.ensures ∙ c.if-too_many.false), c.as_slice.ensures.len);
         step = done.2.state;
       };
     }

@@ -7,7 +7,7 @@ use Rattle.links.proofs.Turning.{is_related}
 use Rattle.mail.specs.Posts.{cut, posts}
 use Rattle.simulation.proofs.Wholes.{homes_at, number_at, turned_whole, turned_within}
 use Rattle.simulation.proofs.simulation.Simulation.turned.Goals as goal
-use Rattle.simulation.proofs.simulation.Simulation.turned.Goals.{in-Unrelated, in-default}
+use Rattle.simulation.proofs.simulation.Simulation.turned.Goals.{in-Unrelated, in_default}
 
 pub returns : goal.returns
 returns c =
@@ -21,13 +21,13 @@ returns c =
     let hj : j < networks x.relations = omega (arith, c.if-other-networks.false, c.networks-networks.ensures) in
     let li : i < length xs = omega (arith, hi, x.all, x.networks.ok.0) in
     let lj : j < length xs = omega (arith, hj, x.all, x.networks.ok.0) in
-    let tied : related (relation x.relations i j) ≡ true = elim c.match-matches.branch [ in-Unrelated w ↦ absurd (both_ways _ c.if-matches.false w.matches-is) | in-default w ↦ is_related _ (λ e. w.in-default.not-Unrelated (c.relation.ensures ∙ e)) ] in
+    let tied : related (relation x.relations i j) ≡ true = elim c.match-matches.branch [ in-Unrelated w ↦ absurd (both_ways _ c.if-matches.false w.matches-is) | in_default w ↦ is_related _ (λ e. w.in_default.not-Unrelated (c.relation.ensures ∙ e)) ] in
     let ni = number_at xs i c.index.result.now li c.index.ensures (x.numbers i) in
     let nj = number_at xs j c.index-2.result.now lj c.index-2.ensures (x.numbers j) in
     let si = homes_at xs i c.index.result.now homes li c.index.ensures (x.same i) in
     let sj = homes_at xs j c.index-2.result.now homes lj c.index-2.ensures (x.same j) in
-    let left = c.in-ok-letters.ensures ∙ ap (λ l. cut i j (posts l)) c.as-slice.ensures.value in
-    let done = c.in-ok-first.ensures in (
+    let left = c.in_ok-letters.ensures ∙ ap (λ l. cut i j (posts l)) c.as_slice.ensures.value in
+    let done = c.in_ok-first.ensures in (
       (λ z. lt-ltb i (networks x.relations) hi z && lt-ltb j (networks x.relations) hj z),
       tied,
       record {
@@ -35,7 +35,7 @@ returns c =
         number2 = done.number2 ∙ nj;
         homes = done.homes ∙ si;
         homes2 = done.homes2 ∙ sj;
-        within = turned_within x.relations homes xs ls i j c.args.up c.index.result.now c.in-ok-first.first c.index-2.result.now c.in-ok-first.second _ _ hi hj li lj c.index.ensures c.index-2.ensures ni nj si sj left done x.within;
-        state = turned_whole x.relations homes xs ls i j c.args.up c.index.result.now c.in-ok-first.first c.index-2.result.now c.in-ok-first.second _ _ hi hj li lj c.index.ensures c.index-2.ensures ni nj si sj left done;
+        within = turned_within x.relations homes xs ls i j c.args.up c.index.result.now c.in_ok-first.first c.index-2.result.now c.in_ok-first.second _ _ hi hj li lj c.index.ensures c.index-2.ensures ni nj si sj left done x.within;
+        state = turned_whole x.relations homes xs ls i j c.args.up c.index.result.now c.in_ok-first.first c.index-2.result.now c.in_ok-first.second _ _ hi hj li lj c.index.ensures c.index-2.ensures ni nj si sj left done;
       },
     )

@@ -9,10 +9,10 @@ pub loop-number-preserved : goal.loop-number-preserved
 loop-number-preserved c =
     let v = c.loop-number.networks in
     let inv = c.loop-number.invariant in
-    let new = subst (Fresh c.loop-number.number c.args.homes.now) c.in-Some.is c.in-ok-network.ensures in
-    let pushed = c.in-ok-push.ensures.items in
+    let new = subst (Fresh c.loop-number.number c.args.homes.now) c.in-Some.is c.in_ok-network.ensures in
+    let pushed = c.in_ok-push.ensures.items in
     let long : length (vec_items v) ≡ c.loop-number.number = sym v.ok.0 ∙ inv.0 in (
-      c.in-ok-push.ensures.len ∙ ap (λ m. m + 1) inv.0,
+      c.in_ok-push.ensures.len ∙ ap (λ m. m + 1) inv.0,
       placed_more number_of (vec_items v) _ c.in-Some.network c.loop-number.number (λ i. i) pushed long new.0 inv.1,
       placed_more homes_of (vec_items v) _ c.in-Some.network c.loop-number.number (λ i. c.args.homes.now) pushed long new.1 inv.2,
       placed_more local (vec_items v) _ c.in-Some.network c.loop-number.number (λ i. silent) pushed long new.2 inv.3,

@@ -1,5 +1,5 @@
 -- A tie that is whole and of a known kind has the fault that `fault` finds.
-use Rattle.std.proofs.Common.{◌≡◌, ◌+◌, ◌<◌, length, get_or, sym, ◌∙◌, inl, inr, rules}
+use Rattle.std.proofs.Common.{◌≡◌, ◌+◌, ◌<◌, length, get_or, sym, ◌∙◌, inl, inr, arith, rules}
 use Rattle.relations.specs.Between.{related}
 use Rattle.relations.specs.Table.{count, rel}
 use Rattle.ties.specs.Steps.{ordered}
@@ -15,7 +15,9 @@ returns-in-Some-fault c =
     let whole : p + 2 < length bs = search rules in
     let one : c.in-Some.first ≡ get_or bs p 0 = search rules in
     let other : c.in-Some-byte.second ≡ get_or bs (p + 1) 0 = search rules in
-    let kind : c.in-Some-byte-2.kind ≡ get_or bs (p + 2) 0 = ? in
+    let source : input c.byte-2.new.self ≡ bs = c.in-Some-byte.ensures.source ∙ c.in-Some.ensures.source in
+    let third : place c.byte-2.new.self ≡ p + 2 = omega (arith, c.in-Some.ensures.cases.2, c.in-Some-byte.ensures.cases.2) in
+    let kind : c.in-Some-byte-2.kind ≡ get_or bs (p + 2) 0 = c.in-Some-byte-2.ensures.cases.1 ∙ (λ i. get_or (source i) (third i) 0) in
     let kinds : Kinds (get_or bs (p + 2) 0) c.match-kind.relation = elim c.match-kind.branch [ in-1 w ↦ inl (sym kind ∙ w.in-1.is, w.relation-is) | in-2 w ↦ inr (sym kind ∙ w.in-2.is, w.relation-is) ] in
     let m = c.args.matrix.now in
     record {
