@@ -3,6 +3,7 @@
 
 use stage::{Failure, load, perform, set_up, unmoved, words};
 use std::io;
+use std::process::ExitCode;
 
 const USAGE: &str = "usage: rehearsals (TIES SCRIPT HOME)...";
 
@@ -28,12 +29,19 @@ fn tell(rt: &HostRuntime, words: &[String]) -> io::Result<()> {
     }
 }
 
-fn main(rt: HostRuntime) -> Result<(), Failure> {
-    let words = words(&rt)?;
+fn run(rt: &HostRuntime) -> Result<(), Failure> {
+    let words = words(rt)?;
     for run in words.as_slice().chunks(3) {
-        if let Err(e) = tell(&rt, run) {
+        if let Err(e) = tell(rt, run) {
             return Err(unmoved(rt.alloc(), "standard output", e));
         }
     }
     Ok(())
+}
+
+fn main(rt: HostRuntime) -> ExitCode {
+    match run(&rt) {
+        Ok(()) => ExitCode::SUCCESS,
+        Err(_) => ExitCode::FAILURE,
+    }
 }

@@ -2,6 +2,7 @@
 #![tactic(auto)]
 
 use stage::{Failure, load, perform, set_up, told, unmoved, words};
+use std::process::ExitCode;
 
 const USAGE: &str = "usage: rehearse TIES SCRIPT HOME...   (--help says more)";
 
@@ -59,16 +60,16 @@ fn run(rt: &HostRuntime) -> Result<(), Failure> {
     rehearse(rt, words[0].as_str(), words[1].as_str(), &words[2..])
 }
 
-fn main(rt: HostRuntime) -> Result<(), Failure> {
-    let result = run(&rt);
-    match &result {
+fn main(rt: HostRuntime) -> ExitCode {
+    match run(&rt) {
+        Ok(()) => ExitCode::SUCCESS,
         Err(Failure::Told(line)) => {
             let _ = eprintln!(rt; "rehearse: {line}");
+            ExitCode::FAILURE
         }
         Err(Failure::Memory) => {
             let _ = eprintln!(rt; "rehearse: out of memory");
+            ExitCode::FAILURE
         }
-        Ok(()) => {}
     }
-    result
 }

@@ -4,7 +4,8 @@
 use relations::MOST;
 use std::alloc::{AllocError, Global};
 use std::io::Read;
-use std::{env, fmt, fs, io};
+use std::process::ExitCode;
+use std::{env, fs, io};
 use ties::Refusal;
 
 const USAGE: &str = "usage: settle TIES   (--help says more)";
@@ -37,12 +38,6 @@ enum Failure {
 
 impl From<io::Error> for Failure {
     fn from(_e: io::Error) -> Failure {
-        Failure::Silent
-    }
-}
-
-impl From<fmt::Error> for Failure {
-    fn from(_e: fmt::Error) -> Failure {
         Failure::Silent
     }
 }
@@ -115,16 +110,16 @@ fn run(rt: &HostRuntime) -> Result<(), Failure> {
     check(rt, path.as_str())
 }
 
-fn main(rt: HostRuntime) -> Result<(), Failure> {
-    let result = run(&rt);
-    match &result {
+fn main(rt: HostRuntime) -> ExitCode {
+    match run(&rt) {
+        Ok(()) => ExitCode::SUCCESS,
         Err(Failure::Told(line)) => {
             let _ = eprintln!(rt; "settle: {line}");
+            ExitCode::FAILURE
         }
         Err(Failure::Silent) => {
             let _ = eprintln!(rt; "settle: out of memory, or the output is closed");
+            ExitCode::FAILURE
         }
-        Ok(()) => {}
     }
-    result
 }

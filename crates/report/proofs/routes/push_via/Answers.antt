@@ -7,6 +7,6 @@ use Rattle.report.proofs.routes.push_via.Goals as goal
 pub returns : goal.returns
 returns c =
     three_parts (string_bytes c.args.out.now) (decimal c.args.network ++ (codes " by " ++ (decimal c.args.neighbour ++ codes " over "))) (spelled c.args.path.now) (codes "\n") _ _ _
-    c.in-ok-write.ensures.bytes
-    c.in-ok-push-numbers.ensures
-    c.in-ok-write-2.ensures.bytes
+    c.in_ok-write.ensures.bytes
+    c.in_ok-push_numbers.ensures
+    c.in_ok-write-2.ensures.bytes
