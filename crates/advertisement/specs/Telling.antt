@@ -1,5 +1,5 @@
 -- What a network tells each neighbour. Assumes nothing.
-use Rattle.std.specs.Prelude.{ℕ, Bool, true, false, cond, ◌&&◌, List, [], ◌∷◌, length, Some, None, Option, nat_lt}
+use Rattle.std.specs.Prelude.{ℕ, Bool, true, false, cond, List, [], ◌∷◌, length, Some, None, Option, nat_lt}
 use Rattle.relations.specs.declared.relation.Relation.{Relation}
 use Rattle.relations.specs.declared.relation.Relation.TheVariants.{Unrelated, Customer, Peer, Provider}
 use Rattle.selection.specs.Choosing.{Choice, nothing, local, via, related}

@@ -1,7 +1,6 @@
 -- An update that is heard in a run is not refused, and keeps what every step keeps. Assumes nothing.
 use Rattle.std.proofs.Common.{◌≡◌, ℕ, Bool, true, false, cond, eqb, List, [], ◌∷◌, None, sym, refl, ap, ◌∙◌, subst}
 use Rattle.std.specs.List.{AllByRecursion as All}
-use Rattle.selection.specs.Choosing.{related}
 use Rattle.links.specs.World.{World, Sound}
 use Rattle.links.specs.Local.{Update, Local, at, retold, sent}
 use Rattle.links.specs.Hearing.{hearing_fault, only, replaced, unless}

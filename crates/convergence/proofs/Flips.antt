@@ -1,6 +1,5 @@
 -- A link that turns keeps what every step keeps. Assumes nothing.
 use Rattle.std.proofs.Common.{◌≡◌, ℕ, Bool, [], sym, ◌∙◌, subst}
-use Rattle.selection.specs.Choosing.{related}
 use Rattle.links.specs.World.{World, Sound}
 use Rattle.links.specs.Local.{Local, at, retold, sent}
 use Rattle.links.specs.Hearing.{every, forgotten, unless}

@@ -1,14 +1,11 @@
 -- Every state of every run has what every step keeps. Assumes nothing.
 use Rattle.std.proofs.Common.{◌≡◌, ℕ, false, List, ◌∷◌, sym, refl, ◌∙◌, subst}
 use Rattle.std.proofs.lemmas.Bool.{both_ways}
-use Rattle.selection.specs.Choosing.{related}
 use Rattle.links.specs.World.{World, Sound}
-use Rattle.links.specs.Local.{sends}
 use Rattle.links.specs.Packets.{Packet, passed}
 use Rattle.links.specs.Run.{Item, update, packet, State, begin, carried, onward, posted, Move, hears, Change, turns, Send, Reach, start, move, change, send}
 use Rattle.links.specs.Run as Run
 use Rattle.links.specs.Promise.{Lookup}
-use Rattle.convergence.proofs.Newest.{newest}
 use Rattle.convergence.proofs.Places.{at_own, at_same, at_twice}
 use Rattle.convergence.proofs.Keeping.{Kept}
 use Rattle.convergence.proofs.Emitting.{Emits, emit_kept}

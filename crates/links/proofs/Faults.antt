@@ -1,9 +1,8 @@
 -- Which fault of an announcement is told: of its networks, its teller or its way. Assumes nothing.
-use Rattle.std.proofs.Common.{◌≡◌, ℕ, ◌+◌, ◌<◌, ◌≤◌, Bool, true, false, cond, not, ◌&&◌, ◌||◌, eqb, ltb, leb, List, [], ◌∷◌, ◌++◌, length, take, replicate, Some, None, Option, sym, refl, ap, ◌∙◌, ⊎_elim, arith, length-append}
+use Rattle.std.proofs.Common.{◌≡◌, ℕ, ◌<◌, ◌≤◌, Bool, true, false, cond, not, ◌&&◌, ◌||◌, eqb, ltb, leb, List, [], ◌∷◌, length, take, replicate, Some, None, Option, sym, refl, ap, ◌∙◌, arith, length-append}
 use mathlib.Core.Path.{fun_ext}
 use lib.ListN.{length-replicate}
 use Rattle.std.proofs.lemmas.List.{length-take-le, take-append-le}
-use Rattle.std.proofs.lemmas.Bool.{or_left, or_from}
 use Rattle.std.proofs.lemmas.Bool.Decides.{nat_tests}
 use Rattle.links.specs.declared.fault.Fault.{Fault}
 use Rattle.links.specs.declared.fault.Fault.TheVariants.{BadLength, NoSuchNetwork, NoSuchBlock, NotRelated, LinkDown, WrongStart, WrongEnd, Repeats, NotPaid, NoLink}
@@ -12,7 +11,7 @@ use Rattle.selection.specs.Choosing.{related}
 use Rattle.links.specs.World.{World}
 use Rattle.links.specs.Local.{Update, Local}
 use Rattle.links.specs.Paths.{below}
-use Rattle.links.specs.Hearing.{faults, first_of, told, hearing_fault, hearing_has, teller_has, networks_have, way_has}
+use Rattle.links.specs.Hearing.{faults, first_of, told, hearing_fault, hearing_has, teller_has, way_has}
 use Rattle.advertisement.specs.Updates.{padded}
 
 -- where nothing is told, there is no fault

@@ -1,10 +1,9 @@
 -- What is held stays proper. Assumes nothing.
-use Rattle.std.proofs.Common.{◌≡◌, ℕ, ◌<◌, ◌≤◌, Bool, true, false, cond, not, ◌||◌, eqb, ltb, List, length, Some, None, Option, sym, refl, ap, ◌∙◌, subst, ⊎_elim, arith}
+use Rattle.std.proofs.Common.{◌≡◌, ℕ, ◌<◌, Bool, false, ◌||◌, eqb, ltb, length, Some, None, Option, sym, refl, subst, ⊎_elim, arith}
 use Rattle.std.proofs.lemmas.Bool.{cases_eq, cond-true, cond-false, eq-eqb, ne_eqb, or_parts, not-false, cond_both, ltb-false, eqb-false}
 use Rattle.links.specs.declared.fault.Fault.{Fault}
-use Rattle.links.specs.declared.fault.Fault.TheVariants.{BadLength, NoSuchNetwork, NoSuchBlock, NotRelated, LinkDown, WrongStart, WrongEnd, Repeats, NotPaid, NoLink}
+use Rattle.links.specs.declared.fault.Fault.TheVariants.{BadLength, NoSuchNetwork, WrongStart, WrongEnd, Repeats, NotPaid}
 use Rattle.links.specs.World.{World}
-use Rattle.links.specs.Paths.{Proper}
 use Rattle.links.specs.Local.{Said, Update, Local, at, retold}
 use Rattle.links.specs.Hearing.{after_hearing, after_turning, every, forgotten, hearing_fault, hearing_has, only, replaced, saying_has, teller_has, turning_fault, unless}
 use Rattle.links.specs.Promise.{ProperSaying}

@@ -1,5 +1,5 @@
 -- What a taken update leaves in the received table. Assumes nothing.
-use Rattle.std.proofs.Common.{◌≡◌, ℕ, ◌<◌, ◌≤◌, Bool, true, false, cond, not, ◌&&◌, ◌||◌, eqb, ltb, leb, List, length, get_or, take, Some, None, vec_items, vec_len, sym, refl, ap, ◌∙◌, arith}
+use Rattle.std.proofs.Common.{◌≡◌, ℕ, ◌<◌, ◌≤◌, Bool, true, false, cond, ◌&&◌, ◌||◌, eqb, ltb, leb, List, length, get_or, take, Some, None, vec_items, vec_len, sym, refl, ap, ◌∙◌, arith}
 use Rattle.std.proofs.lemmas.List.{length-take-le}
 use Rattle.relations.specs.Sound.{networks, relation}
 use Rattle.relations.specs.declared.sound.Relations.{Relations}
@@ -17,7 +17,7 @@ use Rattle.selection.specs.Rows.{with_row}
 use Rattle.links.specs.declared.fault.Fault.TheVariants.{BadLength, NoSuchNetwork, NoSuchBlock}
 use Rattle.links.specs.World.{World}
 use Rattle.links.specs.Local.{Said, Update, Local, at, retold}
-use Rattle.links.specs.Hearing.{after_hearing, hearing_fault, hearing_has, networks_have, only, saying_has, teller_has, replaced, unless}
+use Rattle.links.specs.Hearing.{after_hearing, hearing_fault, hearing_has, networks_have, only, saying_has, replaced, unless}
 use Rattle.advertisement.specs.declared.update.Announcement.{Announcement}
 use Rattle.selection.specs.Paths.{count}
 use Rattle.selection.specs.declared.table.PathTable.{PathTable}

@@ -1,11 +1,11 @@
 -- What telling one block anew leaves, and whom it goes to. Assumes nothing.
-use Rattle.std.proofs.Common.{◌≡◌, ℕ, Bool, true, false, cond, not, ◌&&◌, eqb, ltb, List, sym, refl, ap, ◌∙◌, ⊎_elim}
+use Rattle.std.proofs.Common.{◌≡◌, ℕ, Bool, cond, not, ◌&&◌, eqb, ltb, sym, refl, ap, ◌∙◌, ⊎_elim}
 use Rattle.std.proofs.lemmas.Bool.{cases_eq, eq-eqb, ne_eqb}
 use Rattle.selection.specs.Choosing.{Choice}
 use Rattle.advertisement.specs.Sayings.{same_saying}
 use Rattle.advertisement.specs.Telling.{tells}
 use Rattle.links.specs.World.{World}
-use Rattle.links.specs.Local.{Said, Local, choice, due, retold, sends, tells_now}
+use Rattle.links.specs.Local.{Said, Local, choice, retold, sends, tells_now}
 use Rattle.links.specs.Hearing.{only}
 
 module _ (w : World) (i block : ℕ) (s : Local) (c : Choice) (chosen : c ≡ choice w i s block) where

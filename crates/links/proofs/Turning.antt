@@ -1,5 +1,5 @@
 -- What a turn leaves, block by block. Assumes nothing.
-use Rattle.std.proofs.Common.{◌≡◌, ℕ, ◌+◌, ◌<◌, ◌≤◌, Bool, true, false, cond, not, ◌&&◌, eqb, ltb, List, length, get_or, set, Some, None, sym, refl, ap, ◌∙◌, ⊎_elim, arith}
+use Rattle.std.proofs.Common.{◌≡◌, ℕ, ◌+◌, ◌<◌, ◌≤◌, Bool, true, cond, not, ◌&&◌, eqb, ltb, List, length, get_or, set, Some, None, sym, refl, ap, ◌∙◌, ⊎_elim, arith}
 use Rattle.std.proofs.lemmas.List.{get_or-set_same, get_or-set_other}
 use Rattle.std.proofs.lemmas.Bool.{cases_lt, cases_eq, le-ltb, lt-ltb, cond-false, and_left, eq-eqb, lt-leb}
 use Rattle.std.proofs.lemmas.Bool.Decides.{nat_tests}
@@ -14,7 +14,7 @@ use Rattle.advertisement.specs.Audiences.{in_audience}
 use Rattle.advertisement.specs.declared.audience.Audience.{Audience}
 use Rattle.links.specs.declared.fault.Fault.TheVariants.{NoLink, NoSuchNetwork}
 use Rattle.links.specs.World.{World}
-use Rattle.links.specs.Local.{Said, Local, at, due, retold, sends, tells_now}
+use Rattle.links.specs.Local.{Said, Local, at, retold, sends, tells_now}
 use Rattle.links.specs.Hearing.{after_turning, every, forgotten, only, turning_fault, unless}
 use Rattle.links.specs.Answers.{ToldAll}
 

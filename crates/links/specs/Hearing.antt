@@ -1,5 +1,5 @@
 -- What a network does with what it hears and with a link that turns, refusals too. Assumes nothing.
-use Rattle.std.specs.Prelude.{ℕ, Bool, true, false, not, ◌&&◌, ◌||◌, List, [], ◌∷◌, length, Some, None, Option, ◌==◌, nat_le, nat_lt}
+use Rattle.std.specs.Prelude.{ℕ, Bool, true, false, not, ◌||◌, List, [], ◌∷◌, length, Some, None, Option, ◌==◌, nat_le, nat_lt}
 use Rattle.relations.specs.Between.{Between}
 pub use Rattle.relations.specs.Lists.{first_of}
 use Rattle.selection.specs.Choosing.{related}

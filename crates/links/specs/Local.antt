@@ -1,5 +1,5 @@
 -- One network: what it holds, and what it tells anew. Assumes nothing.
-use Rattle.std.specs.Prelude.{ℕ, Bool, true, false, cond, not, ◌&&◌, List, [], ◌∷◌, Some, None, Option, ◌==◌, nat_lt}
+use Rattle.std.specs.Prelude.{ℕ, Bool, false, cond, not, ◌&&◌, List, [], ◌∷◌, None, Option, ◌==◌, nat_lt}
 pub use Rattle.relations.specs.Lists.{gather}
 use Rattle.selection.specs.Choosing.{Choice, choose, shorter}
 use Rattle.advertisement.specs.Telling.{tells}

@@ -1,14 +1,14 @@
 -- The promise of the whole, over every state of every run of sound ties, and its parts. Each is a type; a proof of it is the
 -- theorem. Assumes nothing.
-use Rattle.std.specs.Prelude.{◌≡◌, ℕ, suc, ◌+◌, ◌*◌, ◌<◌, ◌≤◌, Bool, true, false, ◌⊎◌, List, [], ◌∷◌, length, Some, None, Option}
+use Rattle.std.specs.Prelude.{◌≡◌, ℕ, suc, ◌+◌, ◌*◌, ◌<◌, ◌≤◌, Bool, false, List, ◌∷◌, length, Some, None, Option}
 use Rattle.std.specs.List.{AllByRecursion as All}
 use Rattle.selection.specs.Choosing.{Choice, nothing, local, via, passes}
 use Rattle.advertisement.specs.Telling.{tells}
 use Rattle.links.specs.World.{World, Sound}
 use Rattle.links.specs.Paths.{Proper}
-use Rattle.links.specs.Local.{Said, Update, Local, choice}
+use Rattle.links.specs.Local.{Said, Update, choice}
 use Rattle.links.specs.Hearing.{hearing_fault}
-use Rattle.links.specs.Packets.{Packet, Passed, arrived, passed, Trip, arrives, trip}
+use Rattle.links.specs.Packets.{Packet, arrived, passed, arrives, trip}
 use Rattle.links.specs.Run.{Item, update, packet, State, links, Move, Reach, Quiescent, Ends, taken}
 use Rattle.links.specs.Stable.{Links, Routing, stable, Stable, Fair, after_stretches}
 

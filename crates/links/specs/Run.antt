@@ -1,5 +1,5 @@
 -- All networks and what is in flight between them: moves, link changes, packets sent, and runs of these. Assumes nothing.
-use Rattle.std.specs.Prelude.{◌≡◌, ℕ, ◌<◌, Bool, true, false, cond, ◌&&◌, List, [], ◌∷◌, ◌++◌, map, Some, None, Option, ◌==◌, ◌≢◌}
+use Rattle.std.specs.Prelude.{◌≡◌, ℕ, ◌<◌, Bool, true, cond, List, [], ◌∷◌, ◌++◌, map, Option, ◌==◌, ◌≢◌}
 use Rattle.selection.specs.Choosing.{related}
 use Rattle.links.specs.World.{World}
 use Rattle.links.specs.Local.{Update, Local, silent, at}

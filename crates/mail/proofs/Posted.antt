@@ -1,7 +1,7 @@
 -- What is in flight between two networks, as letters are sent, heard and lost. Assumes nothing.
-use Rattle.std.proofs.Common.{◌≡◌, ℕ, ◌+◌, ◌<◌, ◌≤◌, Bool, true, false, cond, ◌&&◌, ◌||◌, eqb, List, [], ◌∷◌, ◌++◌, length, get_or, take, drop, vec_items, vec_len, Vec, sym, refl, ap, ◌∙◌, append_assoc, append-nil, arith, length-append}
+use Rattle.std.proofs.Common.{◌≡◌, ℕ, ◌+◌, ◌<◌, ◌≤◌, Bool, true, false, cond, ◌||◌, List, [], ◌∷◌, ◌++◌, length, get_or, take, drop, vec_items, vec_len, Vec, sym, refl, ap, ◌∙◌, append_assoc, append-nil, arith}
 use lib.ListN.{length-map}
-use Rattle.std.proofs.lemmas.List.{take_more, take-map, take_all, map_push, map-append, get_or-map, drop_more, drop_all}
+use Rattle.std.proofs.lemmas.List.{take_more, take-map, take_all, map_push, get_or-map, drop_more, drop_all}
 use Rattle.std.proofs.lemmas.Bool.Decides.{nat_tests}
 use Rattle.std.specs.declared.alloc.Global.{Global}
 use Rattle.advertisement.specs.Audiences.{in_audience}

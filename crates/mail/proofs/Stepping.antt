@@ -1,6 +1,5 @@
 -- A network's step on tables of its own is the local step. Assumes nothing.
-use Rattle.std.proofs.Common.{◌≡◌, ℕ, ◌+◌, Bool, List, ◌++◌, length, get_or, vec_items, vec_len, sym, refl, ap, ◌∙◌, subst}
-use lib.ListN.{length-map}
+use Rattle.std.proofs.Common.{◌≡◌, ℕ, Bool, List, ◌++◌, length, get_or, vec_items, vec_len, sym, ap, ◌∙◌, subst}
 use Rattle.relations.specs.Sound.{networks, relation}
 use Rattle.relations.specs.declared.sound.Relations.{Relations}
 use Rattle.selection.specs.Paths.{row}
@@ -9,7 +8,7 @@ use Rattle.advertisement.specs.declared.update.Update.{Update as Message}
 use Rattle.links.specs.Answers.{Answered, TurnAnswered}
 use Rattle.links.specs.Held.{held, links_up, news, world}
 use Rattle.links.specs.Hearing.{after_hearing, after_turning, outbox_on_hearing, outbox_on_turning}
-use Rattle.links.specs.Local.{Local, Update, gather}
+use Rattle.links.specs.Local.{Local, gather}
 use Rattle.links.specs.Made.{Same}
 use Rattle.links.specs.World.{World}
 use Rattle.links.specs.declared.fault.Heard.{Heard}

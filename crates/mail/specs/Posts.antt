@@ -1,5 +1,5 @@
 -- What is in flight as one list, in the order of sending. Assumes nothing.
-use Rattle.std.specs.Prelude.{ℕ, Bool, true, cond, not, ◌&&◌, ◌||◌, List, [], ◌∷◌, map, ◌==◌, nat_lt}
+use Rattle.std.specs.Prelude.{ℕ, Bool, true, cond, ◌&&◌, ◌||◌, List, [], ◌∷◌, map, ◌==◌, nat_lt}
 use Rattle.links.specs.Held.{news}
 use Rattle.links.specs.Local.{Update, Said, gather}
 use Rattle.links.specs.Run.{Item, update}

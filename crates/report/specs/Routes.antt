@@ -1,5 +1,5 @@
 -- The words in which it is told what the networks go by. Assumes nothing.
-use Rattle.std.specs.Prelude.{ℕ, cond, List, [], ◌∷◌, ◌++◌, codes, decimal, nat_lt}
+use Rattle.std.specs.Prelude.{ℕ, cond, List, [], ◌++◌, codes, decimal, nat_lt}
 use Rattle.text.specs.Row.{spelled}
 use Rattle.selection.specs.Choosing.{Choice, nothing, local, via}
 use Rattle.links.specs.Local.{choice, gather}

@@ -1,5 +1,5 @@
 -- A walk along a path, network by network. Assumes nothing.
-use Rattle.std.proofs.Common.{◌≡◌, ℕ, suc, ◌-◌, ◌<◌, false, ◌||◌, eqb, List, [], ◌∷◌, length, get_or, take, drop, sym, refl, ap, ◌∙◌, arith, take_all}
+use Rattle.std.proofs.Common.{◌≡◌, ℕ, ◌-◌, ◌<◌, false, ◌||◌, List, [], ◌∷◌, length, get_or, take, drop, sym, refl, ap, ◌∙◌, arith, take_all}
 use Rattle.std.proofs.lemmas.Bool.{ne_eqb}
 use Rattle.selection.specs.Choosing.{passes}
 

@@ -5,7 +5,7 @@ use relations::MOST;
 use std::alloc::{AllocError, Global};
 use std::io::Read;
 use std::process::ExitCode;
-use std::{env, fs, io};
+use std::{env, fmt, fs, io};
 use ties::Refusal;
 
 const USAGE: &str = "usage: settle TIES   (--help says more)";
@@ -38,6 +38,12 @@ enum Failure {
 
 impl From<io::Error> for Failure {
     fn from(_e: io::Error) -> Failure {
+        Failure::Silent
+    }
+}
+
+impl From<fmt::Error> for Failure {
+    fn from(_e: fmt::Error) -> Failure {
         Failure::Silent
     }
 }

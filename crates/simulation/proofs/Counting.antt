@@ -1,10 +1,9 @@
 -- How many updates are in flight: as many as there are letters. Assumes nothing.
-use Rattle.std.proofs.Common.{◌≡◌, ℕ, zero, suc, ◌+◌, ◌<◌, Bool, true, false, cond, not, ◌&&◌, ◌||◌, eqb, ltb, List, [], ◌∷◌, ◌++◌, map, length, take, drop, Some, None, Option, sym, refl, ap, ◌∙◌, arith}
+use Rattle.std.proofs.Common.{◌≡◌, ℕ, zero, suc, ◌+◌, ◌<◌, Bool, true, false, cond, ◌&&◌, ◌||◌, eqb, ltb, List, [], ◌∷◌, ◌++◌, length, take, drop, Some, None, Option, sym, refl, ap, ◌∙◌, arith}
 use lib.ListN.{length-map}
 use lib.Seq.{drop-nil}
 use Rattle.std.proofs.lemmas.Bool.{and_parts, ltb-true}
 use Rattle.std.proofs.lemmas.Bool.Decides.{nat_tests}
-use Rattle.advertisement.specs.Sayings.{same_saying}
 use Rattle.links.specs.Hearing.{unless}
 use Rattle.links.specs.Local.{Local, gather, outbox, sends, tells_now}
 use Rattle.links.specs.Run.{update}
@@ -13,7 +12,7 @@ use Rattle.links.specs.declared.fault.Fault.{Fault}
 use Rattle.convergence.specs.Measure.{sum}
 use Rattle.convergence.proofs.Sums.{sum_add, sum_none, sum_place, sum_same}
 use Rattle.mail.specs.Posts.{Post, between, cut, flying, goes, inside, mail}
-use Rattle.mail.proofs.Mailed.{mail_outbox, one}
+use Rattle.mail.proofs.Mailed.{mail_outbox}
 
 one_more : {X : Type 0} (b : Bool) (x : X) (xs : List X) → length (cond b (x ∷ xs) xs) ≡ cond b 1 0 + length xs
 one_more true x xs = omega arith

@@ -1,13 +1,13 @@
 -- What is in flight between two networks after a step: as the model says. Assumes nothing.
-use Rattle.std.proofs.Common.{◌≡◌, ℕ, zero, suc, ◌+◌, ◌<◌, ◌≤◌, Bool, true, false, cond, not, ◌&&◌, ◌||◌, eqb, ltb, List, [], ◌∷◌, ◌++◌, map, length, get_or, take, drop, Some, None, Option, sym, refl, ap, ◌∙◌, ⊎_elim, true≢false, append_assoc, append-nil, arith}
+use Rattle.std.proofs.Common.{◌≡◌, ℕ, zero, suc, ◌+◌, ◌≤◌, Bool, true, false, cond, not, ◌&&◌, ◌||◌, eqb, ltb, List, [], ◌∷◌, ◌++◌, map, take, drop, Some, None, Option, sym, refl, ap, ◌∙◌, ⊎_elim, true≢false, append-nil, arith}
 use lib.Seq.{split_at}
 use Rattle.std.proofs.lemmas.List.{map-append}
 use Rattle.std.proofs.lemmas.Bool.{and_parts, cases_Bool, cases_eq, cases_lt, cond-false, cond-true, eq-eqb, eqb-true, le-ltb, ne_eqb}
 use Rattle.std.proofs.lemmas.Bool.Decides.{nat_tests}
 use Rattle.advertisement.specs.Sayings.{same_saying}
 use Rattle.links.specs.Hearing.{unless}
-use Rattle.links.specs.Local.{Local, Said, Update, at, gather, outbox, sends, sent, tells_now}
-use Rattle.links.specs.Run.{Item, update, appended, queued, updates}
+use Rattle.links.specs.Local.{Local, Update, gather, outbox, sends, sent, tells_now}
+use Rattle.links.specs.Run.{update, appended, queued, updates}
 use Rattle.links.specs.World.{World}
 use Rattle.links.specs.declared.fault.Fault.{Fault}
 use Rattle.convergence.proofs.Places.{crosses, emptied, queued_is}

@@ -1,14 +1,12 @@
 -- A simulation's ties are sound, so less is left in flight with every hearing. Assumes nothing.
-use Rattle.std.proofs.Common.{◌≡◌, ℕ, ◌<◌, true, ltb, List, length, vec_items, sym, subst}
+use Rattle.std.proofs.Common.{◌≡◌, ℕ, ◌<◌, true, List, length, vec_items, sym, subst}
 use mathlib.Core.Bool.{Bool-set}
 use mathlib.Core.Logic.{∥∥₁_elim}
-use Rattle.std.specs.List.{AllByRecursion as All}
 use Rattle.std.proofs.lemmas.Bool.{lt-ltb, ltb-true}
 use Rattle.relations.specs.declared.sound.Relations.{Relations}
-use Rattle.links.specs.Run.{Move, Reach, State}
-use Rattle.links.specs.World.{World, Sound}
+use Rattle.links.specs.Run.{Move, State}
+use Rattle.links.specs.World.{Sound}
 use Rattle.convergence.specs.Levels.{Heights}
-use Rattle.convergence.specs.Measure.{left}
 use Rattle.convergence.proofs.Falling.{falls}
 use Rattle.convergence.proofs.Standing.{heights_exist}
 use Rattle.simulation.specs.Resting.{Lessens}

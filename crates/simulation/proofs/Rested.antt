@@ -1,9 +1,9 @@
 -- Hearing keeps links, and when nothing is in flight the stable routing stands. Assumes nothing.
-use Rattle.std.proofs.Common.{◌≡◌, ℕ, ◌<◌, cond, eqb, List, [], ◌∷◌, Some, None, vec_items, Option, sym, refl, ap, ◌∙◌, subst, ⊎_elim}
+use Rattle.std.proofs.Common.{◌≡◌, ℕ, ◌<◌, cond, List, [], ◌∷◌, Some, None, vec_items, Option, sym, refl, ap, ◌∙◌, subst, ⊎_elim}
 use mathlib.Core.Logic.{∥∥₁_elim}
 use Rattle.std.proofs.lemmas.Bool.{cases_eq, eq-eqb, ne_eqb}
 use Rattle.links.specs.Hearing.{after_hearing, hearing_fault, only, replaced, unless}
-use Rattle.links.specs.Local.{Local, Update, at, retold}
+use Rattle.links.specs.Local.{Local, Update, retold}
 use Rattle.links.specs.Promise.{Settled}
 use Rattle.links.specs.Run.{Item, NoUpdate, Quiescent, State, links, packet, update}
 use Rattle.links.specs.World.{World}
@@ -13,7 +13,7 @@ use Rattle.convergence.specs.Measure.{left}
 use Rattle.convergence.proofs.Quiescence.{settles}
 use Rattle.simulation.specs.Resting.{NextHeard, Still}
 use Rattle.simulation.specs.Simulated.{state_of, world_of}
-use Rattle.simulation.specs.Steps.{first_heard, hearing}
+use Rattle.simulation.specs.Steps.{first_heard}
 use Rattle.mail.specs.Whole.{nowhere}
 use Rattle.simulation.specs.declared.simulation.Simulation.{Simulation}
 use Rattle.simulation.proofs.Lessening.{heard_lessens, sound}

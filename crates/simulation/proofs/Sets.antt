@@ -1,6 +1,6 @@
 -- Choices and sayings are equal in one way at most. Assumes nothing.
-use Rattle.std.proofs.Common.{◌≡◌, ℕ, List, [], ◌∷◌, Some, None, refl, ap}
-use base.Stored.{Coded, Coded-set, coded_list, coded_via, coded_ℕ}
+use Rattle.std.proofs.Common.{◌≡◌, ℕ, List, [], ◌∷◌, Some, None, refl}
+use base.Stored.{Coded-set, coded_list, coded_via, coded_ℕ}
 use Rattle.selection.specs.Choosing.{Choice, nothing, local, via}
 use Rattle.links.specs.Local.{Said}
 

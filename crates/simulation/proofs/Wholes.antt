@@ -1,14 +1,14 @@
 -- A step made aside is the step of the model. Assumes nothing.
-use Rattle.std.proofs.Common.{◌≡◌, ℕ, zero, suc, ◌+◌, ◌<◌, Bool, true, false, cond, ◌&&◌, eqb, ltb, List, [], ◌∷◌, ◌++◌, map, length, get_or, take, drop, set, vec_items, sym, refl, ap, ◌∙◌, subst, ⊎_elim, arith, length-set}
+use Rattle.std.proofs.Common.{◌≡◌, ℕ, zero, suc, ◌+◌, ◌<◌, Bool, true, cond, eqb, List, [], ◌∷◌, ◌++◌, map, length, get_or, take, drop, set, sym, refl, ap, ◌∙◌, ⊎_elim, arith, length-set}
 use lib.ListN.{length-map}
 use lib.Seq.{map-set}
 use Rattle.std.proofs.lemmas.List.{drop-map, get_or-map, get_or-set_other, get_or-set_same, map-append, take-map}
 use Rattle.std.proofs.lemmas.Bool.{cases_eq, eq-eqb, ne_eqb}
-use Rattle.relations.specs.Sound.{networks, relation}
+use Rattle.relations.specs.Sound.{networks}
 use Rattle.relations.specs.declared.sound.Relations.{Relations}
 use Rattle.links.specs.Hearing.{after_hearing, after_turning, every, forgotten, hearing_fault, only, outbox_on_hearing, outbox_on_turning, replaced, sent_on_hearing, sent_on_turning, turning_fault}
-use Rattle.links.specs.Local.{Local, Update, at, silent}
-use Rattle.links.specs.Run.{Item, State, appended, heard, queued, turned, update, updates}
+use Rattle.links.specs.Local.{Update, at, silent}
+use Rattle.links.specs.Run.{State, appended, queued, turned, update, updates}
 use Rattle.links.specs.World.{World}
 use Rattle.mail.proofs.Posted.{Front}
 use Rattle.mail.specs.Posts.{Post, cut, flying, inside, mail, meant, posts}

@@ -6,7 +6,7 @@ use Rattle.relations.specs.declared.sound.Relations.{Relations}
 use Rattle.links.specs.Run.{begin}
 use Rattle.simulation.specs.Simulated.{state_of, world_of}
 use Rattle.simulation.specs.declared.simulation.Simulation.{Simulation}
-use Rattle.links.specs.Local.{Local, silent}
+use Rattle.links.specs.Local.{silent}
 use Rattle.mail.specs.Whole.{ground, homes_of, local, local_at, number_of}
 use Rattle.mail.specs.declared.network.Network.{Network}
 

@@ -1,5 +1,5 @@
 -- What a simulation holds, in the terms of the model of a run, and a step made aside. Assumes nothing.
-use Rattle.std.specs.Prelude.{◌≡◌, ℕ, ◌<◌, true, List, length, vec_items, slice_set}
+use Rattle.std.specs.Prelude.{◌≡◌, ℕ, ◌<◌, true, List, vec_items, slice_set}
 use Rattle.relations.specs.Sound.{networks}
 use Rattle.links.specs.Run.{Reach, State}
 use Rattle.links.specs.World.{World}

@@ -1,5 +1,5 @@
 -- The things that stand in a ties file: its head and its ties, by their places in the bytes. Assumes nothing.
-use Rattle.std.specs.Prelude.{ℕ, zero, suc, ◌+◌, ◌*◌, Bool, cond, ◌&&◌, ◌||◌, List, ◌==◌, slice_index}
+use Rattle.std.specs.Prelude.{ℕ, zero, suc, ◌+◌, ◌*◌, cond, List, ◌==◌, slice_index}
 use Rattle.wire.specs.Reading.{word16}
 use Rattle.relations.specs.Between.{Between, unrelated, with_pair}
 use Rattle.relations.specs.declared.relation.Relation.{Relation}

@@ -1,5 +1,5 @@
 -- What is copied to the front is the path.
-use Rattle.std.proofs.Common.{length, take, replicate, Some, refl, ap, ◌∙◌, append_assoc}
+use Rattle.std.proofs.Common.{length, take, Some, refl, ap, ◌∙◌, append_assoc}
 use Rattle.std.proofs.lemmas.List.{take_at}
 use Rattle.advertisement.proofs.update.announced.Goals as goal
 

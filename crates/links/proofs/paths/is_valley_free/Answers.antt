@@ -1,4 +1,4 @@
-use Rattle.std.proofs.Common.{◌≡◌, ◌+◌, true, ◌&&◌, get_or, drop, sym, ap, ◌∙◌}
+use Rattle.std.proofs.Common.{◌+◌, ◌&&◌, get_or, drop, sym, ap, ◌∙◌}
 use Rattle.relations.specs.Sound.{relation}
 use Rattle.links.specs.Paths.{allowed, is_provider, descends}
 use Rattle.links.proofs.Scans.{descends_no, descends_on, descends_end}

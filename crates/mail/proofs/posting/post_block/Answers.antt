@@ -1,5 +1,5 @@
 -- Who is to be told stands among the audiences.
-use Rattle.std.proofs.Common.{◌≡◌, ◌++◌, vec_items, sym, ap, ◌∙◌, arith}
+use Rattle.std.proofs.Common.{◌++◌, vec_items, sym, ap, ◌∙◌, arith}
 use Rattle.selection.specs.Paths.{row}
 use Rattle.mail.specs.Posts.{mailing, posts}
 use Rattle.mail.proofs.Posted.{by_audience}

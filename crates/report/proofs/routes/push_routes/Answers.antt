@@ -1,5 +1,5 @@
 -- Each turn appends one line.
-use Rattle.std.proofs.Common.{◌<◌, sym, arith}
+use Rattle.std.proofs.Common.{◌<◌, arith}
 use Rattle.simulation.specs.Simulated.{state_of, world_of}
 use Rattle.report.proofs.Lines.{next_line}
 use Rattle.report.proofs.routes.push_routes.Goals as goal

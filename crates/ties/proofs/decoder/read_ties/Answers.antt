@@ -1,5 +1,5 @@
 -- Each turn reads one tie more, and the table follows it.
-use Rattle.std.proofs.Common.{◌≡◌, ℕ, ◌≤◌, min, sym, refl, ap, ◌∙◌, subst, arith}
+use Rattle.std.proofs.Common.{sym, refl, ◌∙◌, arith}
 use Rattle.ties.proofs.Progress.{sofar_none, sofar_more, told_next}
 use Rattle.ties.proofs.decoder.read_ties.Goals as goal
 

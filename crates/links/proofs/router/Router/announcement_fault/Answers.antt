@@ -1,5 +1,5 @@
 -- Each exit tells the fault that comes first.
-use Rattle.std.proofs.Common.{◌≡◌, true, false, ltb, length, Some, None, sym, ap, ◌∙◌, subst, rules}
+use Rattle.std.proofs.Common.{◌≡◌, ltb, length, None, sym, ap, ◌∙◌, rules}
 use Rattle.relations.specs.Sound.{networks}
 use Rattle.links.specs.Held.{held, world}
 use Rattle.advertisement.specs.Updates.{padded}

@@ -1,5 +1,5 @@
 -- A taken update is written, and its block told anew: the local step.
-use Rattle.std.proofs.Common.{◌≡◌, ◌<◌, vec_len, sym, refl, ap, ◌∙◌, subst}
+use Rattle.std.proofs.Common.{◌≡◌, ◌<◌, vec_len, sym, refl, ◌∙◌, subst}
 use Rattle.links.specs.Held.{held, news, world}
 use Rattle.links.specs.Hearing.{only}
 use Rattle.links.specs.Local.{retold, sends}

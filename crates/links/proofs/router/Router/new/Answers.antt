@@ -1,5 +1,4 @@
-use Rattle.std.proofs.Common.{false, get_or, replicate, refl, ap, ◌∙◌, ⊎_elim, arith}
-use lib.ListN.{length-replicate}
+use Rattle.std.proofs.Common.{false, get_or, replicate, refl, ap, ◌∙◌, ⊎_elim}
 use Rattle.std.proofs.lemmas.List.{get_or-replicate, get_or_past}
 use Rattle.std.proofs.lemmas.Bool.{cases_lt}
 use Rattle.links.proofs.router.Router.new.Goals as goal

@@ -1,5 +1,5 @@
 -- Selecting and advertising for one block is telling it anew.
-use Rattle.std.proofs.Common.{◌≡◌, ℕ, cond, not, ◌&&◌, eqb, ltb, vec_items, refl, ap, ◌∙◌, arith}
+use Rattle.std.proofs.Common.{◌≡◌, cond, not, ◌&&◌, eqb, ltb, vec_items, refl, ap, ◌∙◌}
 use Rattle.std.proofs.lemmas.List.{get_or_read_under}
 use Rattle.relations.specs.Sound.{networks, relation}
 use Rattle.selection.specs.Choosing.{meaning, choose, shorter}

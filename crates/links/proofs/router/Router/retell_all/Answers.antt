@@ -1,10 +1,10 @@
-use Rattle.std.proofs.Common.{◌≡◌, ◌+◌, ◌<◌, length, set, vec_items, vec_len, sym, ap, ◌∙◌, subst, arith}
+use Rattle.std.proofs.Common.{◌+◌, ◌<◌, length, set, vec_items, vec_len, sym, ap, ◌∙◌, subst, arith}
 use Rattle.links.specs.Answers.{ToldAll}
 use Rattle.links.specs.Held.{held, world}
 use Rattle.links.specs.Hearing.{only}
 use Rattle.links.specs.Local.{retold, sends}
 use Rattle.links.proofs.Receiving.{same_world, then_is}
-use Rattle.links.proofs.Turning.{before, retell_more, told_more}
+use Rattle.links.proofs.Turning.{retell_more, told_more}
 use Rattle.links.proofs.router.Router.retell_all.Goals as goal
 
 pub loop-block-preserved : goal.loop-block-preserved

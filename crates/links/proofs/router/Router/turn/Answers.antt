@@ -1,9 +1,8 @@
 -- What went over the link is forgotten, and every block told anew: the local step.
-use Rattle.std.proofs.Common.{◌≡◌, ◌<◌, true, None, vec_items, vec_len, sym, refl, ap, ◌∙◌, subst, rules}
+use Rattle.std.proofs.Common.{◌≡◌, ◌<◌, true, None, vec_len, sym, ◌∙◌, subst, rules}
 use Rattle.std.proofs.lemmas.Bool.{both_ways}
 use Rattle.relations.specs.Sound.{relation}
 use Rattle.selection.specs.Choosing.{related}
-use Rattle.links.specs.Answers.{ToldAll}
 use Rattle.links.specs.Held.{held, world}
 use Rattle.links.specs.Hearing.{every, forgotten, turning_fault}
 use Rattle.links.specs.Local.{retold, sends}

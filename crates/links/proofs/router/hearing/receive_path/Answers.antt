@@ -1,5 +1,5 @@
 -- The row of the teller is written, since there is a place for it.
-use Rattle.std.proofs.Common.{◌≡◌, ℕ, true, length, Some, None, sym, ap, ◌∙◌, arith, rules}
+use Rattle.std.proofs.Common.{◌≡◌, ℕ, true, length, Some, sym, ap, ◌∙◌, arith, rules}
 use Rattle.std.proofs.lemmas.Bool.Decides.{when_true}
 use Rattle.selection.specs.Paths.{row}
 use Rattle.selection.specs.Rows.{with_row}

@@ -1,5 +1,5 @@
 -- A refusal sends nothing.
-use Rattle.std.proofs.Common.{◌≡◌, ◌++◌, vec_items, sym, refl, ap, ◌∙◌, append-nil}
+use Rattle.std.proofs.Common.{◌++◌, vec_items, sym, refl, ap, ◌∙◌, append-nil}
 use Rattle.selection.specs.Paths.{row}
 use Rattle.mail.specs.Posting.{told_by}
 use Rattle.mail.specs.Posts.{mailing, posts}

@@ -1,5 +1,5 @@
 -- After the two writes the table is as `with_pair` says, and both ends still say the same.
-use Rattle.std.proofs.Common.{◌≡◌, ℕ, ◌<◌, ◌≤◌, sym, refl, ◌∙◌, arith}
+use Rattle.std.proofs.Common.{sym, refl, ◌∙◌, arith}
 use Rattle.std.proofs.lemmas.Bool.Decides.{nat_tests}
 use Rattle.relations.proofs.Tables.{pair_hold}
 use Rattle.relations.proofs.matrix.Matrix.relate.Goals as goal

@@ -1,14 +1,11 @@
 -- What was made aside takes its place.
-use Rattle.std.proofs.Common.{◌≡◌, ltb, vec_items, sym, refl, ap, ◌∙◌, subst, arith}
-use mathlib.Core.Logic.{∥∥₁_map}
+use Rattle.std.proofs.Common.{vec_items, sym, refl, ap, ◌∙◌, arith}
 use lib.ListN.{length-map}
 use Rattle.std.proofs.lemmas.Bool.{ltb-false, ltb-true}
 use Rattle.relations.specs.Sound.{networks}
-use Rattle.links.specs.Run.{Reach}
 use Rattle.mail.specs.Posts.{meant, posts}
-use Rattle.simulation.specs.Simulated.{state_of, world_of}
+use Rattle.simulation.specs.Simulated.{world_of}
 use Rattle.simulation.specs.Steps.{afloat}
-use Rattle.mail.specs.Whole.{nowhere}
 use Rattle.simulation.proofs.Counting.{counted}
 use Rattle.simulation.proofs.Lessening.{heard_lessens}
 use Rattle.simulation.proofs.Reaching.{heard_ready}

@@ -1,5 +1,5 @@
 -- The oldest is taken out, and the network at its place steps.
-use Rattle.std.proofs.Common.{◌≡◌, ◌+◌, ◌<◌, ◌&&◌, ltb, ◌++◌, length, take, drop, vec_items, vec_len, sym, ap, ◌∙◌, subst, arith}
+use Rattle.std.proofs.Common.{◌+◌, ◌<◌, ◌&&◌, ◌++◌, length, take, drop, vec_items, ◌∙◌, subst, arith}
 use Rattle.std.proofs.lemmas.Bool.{lt-ltb}
 use Rattle.relations.specs.Sound.{networks}
 use Rattle.links.specs.Held.{news}

@@ -1,5 +1,5 @@
 -- At the beginning every network is silent, and no letter is under way.
-use Rattle.std.proofs.Common.{◌≡◌, ℕ, ◌≤◌, true, [], map, length, get_or, vec_items, vec_len, sym, refl, ap, ◌∙◌, subst, arith, rules}
+use Rattle.std.proofs.Common.{◌≡◌, ℕ, ◌≤◌, map, length, get_or, vec_items, vec_len, sym, ap, ◌∙◌, subst, arith, rules}
 use Rattle.relations.specs.Sound.{networks}
 use Rattle.links.specs.Run.{Reach, start}
 use Rattle.simulation.specs.Beginning.{AllFresh}

@@ -1,5 +1,5 @@
 -- Each turn hears the next; when nothing is in flight the stable routing stands.
-use Rattle.std.proofs.Common.{◌≡◌, ℕ, ◌<◌, sym, refl, ap, ◌∙◌, subst}
+use Rattle.std.proofs.Common.{◌≡◌, ◌<◌, sym, refl, ap, ◌∙◌, subst}
 use Rattle.std.proofs.lemmas.Bool.Decides.{when_false, when_true}
 use Rattle.links.specs.Promise.{Settled}
 use Rattle.links.specs.World.{World}

@@ -1,5 +1,5 @@
 -- What was heard so far; less is left in flight each time.
-use Rattle.std.proofs.Common.{◌≡◌, ℕ, vec_items}
+use Rattle.std.proofs.Common.{◌≡◌, ℕ}
 use Rattle.links.specs.Run.{links}
 use Rattle.convergence.specs.Measure.{left}
 use Rattle.simulation.specs.Resting.{Hearings}

@@ -1,5 +1,5 @@
 -- What was made aside takes its place.
-use Rattle.std.proofs.Common.{◌≡◌, set, vec_items, sym, refl, ap, ◌∙◌, subst, arith}
+use Rattle.std.proofs.Common.{set, vec_items, sym, refl, ap, ◌∙◌, subst, arith}
 use mathlib.Core.Logic.{∥∥₁_map}
 use lib.ListN.{length-map}
 use Rattle.std.proofs.lemmas.Bool.{ltb-false, ltb-true}

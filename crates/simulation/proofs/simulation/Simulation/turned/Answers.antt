@@ -1,5 +1,5 @@
 -- What went over the link is lost, and both ends step.
-use Rattle.std.proofs.Common.{◌≡◌, ◌<◌, true, ◌&&◌, length, vec_items, sym, ap, ◌∙◌, arith}
+use Rattle.std.proofs.Common.{◌≡◌, ◌<◌, true, ◌&&◌, length, vec_items, ap, ◌∙◌, arith}
 use Rattle.std.proofs.lemmas.Bool.{both_ways, lt-ltb}
 use Rattle.relations.specs.Sound.{networks, relation}
 use Rattle.selection.specs.Choosing.{related}

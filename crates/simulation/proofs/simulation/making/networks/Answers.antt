@@ -1,4 +1,4 @@
-use Rattle.std.proofs.Common.{◌≡◌, ◌+◌, length, vec_items, sym, ap, ◌∙◌, subst, arith}
+use Rattle.std.proofs.Common.{◌≡◌, ◌+◌, length, vec_items, sym, ap, ◌∙◌, subst}
 use Rattle.links.specs.Local.{silent}
 use Rattle.simulation.specs.Beginning.{Fresh}
 use Rattle.mail.specs.Whole.{homes_of, local, number_of}
