@@ -1,6 +1,6 @@
 -- To forget what went over one link, at both ends, keeps what every step keeps. Assumes nothing.
 use Rattle.std.proofs.Common.{◌≡◌, ℕ, Bool, true, false, cond, ◌⊎◌, [], None, sym, refl, ap, ◌∙◌, subst, ⊎_elim, arith}
-use Rattle.std.specs.List.{AllByRecursion as All}
+use Rattle.std.specs.List.{AllByRecursion}
 use Rattle.std.proofs.lemmas.Bool.{cases_Bool, cond_both, cond-false}
 use Rattle.std.proofs.lemmas.Bool.Decides.{nat_tests}
 use Rattle.links.specs.World.{World}
@@ -77,5 +77,5 @@ module _ (w : World) (s : State) (h : Kept w s) (i j : ℕ) (b : Bool) (there : 
         idle = cut_idle;
         newest = cut_newest;
         held = λ a c k. subst (ProperSaying w a k c) (sym (cut_received a c k)) (cond_both (crosses i j a k) None ((s.locals a).received c k) (ProperSaying w a k c) (λ _. tt) (λ _. h.held a c k));
-        flying = λ a k. subst (All (ProperItem w k a)) (sym (emptied i j s.flight a k)) (cond_both (crosses i j a k) [] (s.flight a k) (All (ProperItem w k a)) (λ _. tt) (λ _. h.flying a k));
+        flying = λ a k. subst (AllByRecursion (ProperItem w k a)) (sym (emptied i j s.flight a k)) (cond_both (crosses i j a k) [] (s.flight a k) (AllByRecursion (ProperItem w k a)) (λ _. tt) (λ _. h.flying a k));
       }

@@ -1,6 +1,6 @@
 -- An update that is heard in a run is not refused, and keeps what every step keeps. Assumes nothing.
 use Rattle.std.proofs.Common.{◌≡◌, ℕ, Bool, true, false, cond, eqb, List, [], ◌∷◌, None, sym, refl, ap, ◌∙◌, subst}
-use Rattle.std.specs.List.{AllByRecursion as All}
+use Rattle.std.specs.List.{AllByRecursion}
 use Rattle.links.specs.World.{World, Sound}
 use Rattle.links.specs.Local.{Update, Local, at, retold, sent}
 use Rattle.links.specs.Hearing.{hearing_fault, only, replaced, unless}
@@ -34,7 +34,7 @@ module _ (w : World) (sound : Sound w) (s : State) (h : Kept w s) (i j : ℕ) (u
   joined = h.tied i j (flies_up w s h i j (update u) rest first)
 
   good : ProperItem w j i (update u)
-  good = (subst (All (ProperItem w j i)) first (h.flying i j)).0
+  good = (subst (AllByRecursion (ProperItem w j i)) first (h.flying i j)).0
 
   pub unrefused : hearing_fault w j (s.locals j) i u ≡ None
   unrefused =

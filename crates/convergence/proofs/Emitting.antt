@@ -1,6 +1,6 @@
 -- A network that sends what it then advertises keeps what every step keeps. Assumes nothing.
 use Rattle.std.proofs.Common.{◌≡◌, ℕ, false, List, [], ◌++◌, sym, refl, ap, ◌∙◌, subst}
-use Rattle.std.specs.List.{AllByRecursion as All}
+use Rattle.std.specs.List.{AllByRecursion}
 use Rattle.std.proofs.ByRecursion.{All-append}
 use Rattle.links.specs.World.{World}
 use Rattle.links.specs.Local.{Local, at}
@@ -16,7 +16,7 @@ pub record Emits (w : World) (i : ℕ) (l l' : Local) (more : ℕ → List Item)
   pub received : (b k : ℕ) → l'.received b k ≡ l.received b k
   pub newest : (b k : ℕ) → newest b (more k) (l.advertised b k) ≡ l'.advertised b k
   pub idle : (k : ℕ) → l.up k ≡ false → more k ≡ []
-  pub proper : (k : ℕ) → All (ProperItem w k i) (more k)
+  pub proper : (k : ℕ) → AllByRecursion (ProperItem w k i) (more k)
 
 abbrev pub emitted : ℕ → Local → (ℕ → List Item) → State → State
 emitted i l' more s = record { locals = at i l' s.locals; flight = appended i more s.flight }
@@ -54,7 +54,7 @@ module _ (w : World) (s : State) (h : Kept w s) (i : ℕ) (l' : Local) (more : �
         newest = λ a k b. ap (newest b (appended i more s.flight a k)) (emit_received k b a) ∙ emit_newest a k b;
         held = λ a b k. subst (ProperSaying w a k b) (sym (emit_received a b k)) (h.held a b k);
         flying = λ a k.
-            appended_cases (All (ProperItem w k a)) i more s.flight a k
-            (λ f. All-append (ProperItem w k a) (s.flight a k) (more k) (h.flying a k) (subst (λ x. All (ProperItem w k x) (more k)) (sym f) (e.proper k)))
+            appended_cases (AllByRecursion (ProperItem w k a)) i more s.flight a k
+            (λ f. All-append (ProperItem w k a) (s.flight a k) (more k) (h.flying a k) (subst (λ x. AllByRecursion (ProperItem w k x) (more k)) (sym f) (e.proper k)))
             (λ _. h.flying a k);
       }

@@ -1,7 +1,7 @@
 -- What every step keeps: links are the same at both ends, nothing is in flight over one that is down, what is in flight ends
 -- at what was advertised, and all paths are proper. Assumes nothing.
 use Rattle.std.proofs.Common.{◌≡◌, ℕ, ◌<◌, true, false, List, [], ◌∷◌, sym, refl, subst, ⊎_elim, arith}
-use Rattle.std.specs.List.{AllByRecursion as All}
+use Rattle.std.specs.List.{AllByRecursion}
 use Rattle.std.proofs.lemmas.Bool.{cases_Bool}
 use Rattle.selection.specs.Choosing.{related}
 use Rattle.relations.specs.Between.{opposite}
@@ -26,7 +26,7 @@ pub record Kept (w : World) (s : State) : Type 0 where
   pub idle : (i k : ℕ) → (s.locals i).up k ≡ false → s.flight i k ≡ []
   pub newest : (i k b : ℕ) → newest b (s.flight i k) ((s.locals k).received b i) ≡ (s.locals i).advertised b k
   pub held : (i : ℕ) → HoldsProper w i (s.locals i)
-  pub flying : (i k : ℕ) → All (ProperItem w k i) (s.flight i k)
+  pub flying : (i k : ℕ) → AllByRecursion (ProperItem w k i) (s.flight i k)
 
 -- where something is in flight the link is up
 nothing_there : {X : Type 0} (xs : List Item) (x : Item) (rest : List Item) → xs ≡ [] → xs ≡ x ∷ rest → X

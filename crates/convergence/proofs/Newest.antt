@@ -1,6 +1,6 @@
 -- What a network will have received once all that is in flight to it is heard. Assumes nothing.
 use Rattle.std.proofs.Common.{◌≡◌, ℕ, zero, suc, ◌<◌, Bool, true, false, cond, not, ◌&&◌, eqb, ltb, List, [], ◌∷◌, ◌++◌, sym, refl, ap, ◌∙◌, subst, ⊎_elim, arith}
-use Rattle.std.specs.List.{AllByRecursion as All}
+use Rattle.std.specs.List.{AllByRecursion}
 use Rattle.std.proofs.ByRecursion.{All-append}
 use Rattle.std.proofs.lemmas.List.{map-append}
 use Rattle.std.proofs.lemmas.Bool.{cases_eq, cond_both, cond-false, eqb-true, and_left, and_right}
@@ -29,7 +29,7 @@ newest_quiet b [] d h = refl
 newest_quiet b (update u ∷ xs) d h = absurd h
 newest_quiet b (packet p ∷ xs) d h = newest_quiet b xs d h
 
-pub newest_proper : (w : World) (k i b : ℕ) (xs : List Item) (d : Said) → All (ProperItem w k i) xs → ProperSaying w k i b d → ProperSaying w k i b (newest b xs d)
+pub newest_proper : (w : World) (k i b : ℕ) (xs : List Item) (d : Said) → AllByRecursion (ProperItem w k i) xs → ProperSaying w k i b d → ProperSaying w k i b (newest b xs d)
 newest_proper w k i b [] d all h = h
 newest_proper w k i b (update u ∷ xs) d all h =
     newest_proper w k i b xs _ all.1 (cond_both (eqb b u.block) u.says d (ProperSaying w k i b) (λ e. subst (λ c. ProperSaying w k i c u.says) (sym (eqb-true b u.block e)) all.0.1) (λ _. h))
@@ -71,7 +71,7 @@ newest_sent w i these l b k =
     by false e f h = grind (arith, nat_tests)
 
 -- each of a gathered list has what each part has
-pub gather_all : {X : Type 0} (P : X → Type 0) (f : ℕ → List X) (m : ℕ) → ((c : ℕ) → c < m → All P (f c)) → All P (gather f m)
+pub gather_all : {X : Type 0} (P : X → Type 0) (f : ℕ → List X) (m : ℕ) → ((c : ℕ) → c < m → AllByRecursion P (f c)) → AllByRecursion P (gather f m)
 gather_all P f zero h = tt
 gather_all P f (suc m) h = All-append P (gather f m) (f m) (gather_all P f m (λ c l. h c (omega arith))) (h m (omega arith))
 

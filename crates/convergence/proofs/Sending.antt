@@ -1,7 +1,7 @@
 -- What a network sends as it tells anew, or as it hands a packet on, is proper, goes over links that are up, and says what it
 -- then has advertised. Assumes nothing.
 use Rattle.std.proofs.Common.{◌≡◌, ℕ, zero, suc, ◌<◌, Bool, false, cond, eqb, List, [], ◌∷◌, Some, None, Option, refl, ap, ◌∙◌}
-use Rattle.std.specs.List.{AllByRecursion as All}
+use Rattle.std.specs.List.{AllByRecursion}
 use Rattle.std.proofs.ByRecursion.{All-map}
 use Rattle.std.proofs.lemmas.Bool.{and_parts, both_ways, cond_both, eqb-true}
 use Rattle.selection.specs.Choosing.{Choice, nothing, local, via}
@@ -27,8 +27,8 @@ tells_emits w sound i these l hi held =
       proper = λ k. All-map (ProperItem w k i) update (sent w i these l k) (gather_all (λ u. ProperItem w k i (update u)) _ w.blocks (λ c hc. one k c hc));
     }
   where
-    one : (k c : ℕ) → c < w.blocks → All (λ u. ProperItem w k i (update u)) (cond (sends w i these l c k) (record { block = c; says = tells_now w i l c k } ∷ []) [])
-    one k c hc = cond_both (sends w i these l c k) (record { block = c; says = tells_now w i l c k } ∷ []) [] (All (λ u. ProperItem w k i (update u))) (λ e. ((hc, tells_proper w sound i k hi (due_is w these l c k (and_parts (due w these l c k) _ e).0).there c l held), tt)) (λ _. tt)
+    one : (k c : ℕ) → c < w.blocks → AllByRecursion (λ u. ProperItem w k i (update u)) (cond (sends w i these l c k) (record { block = c; says = tells_now w i l c k } ∷ []) [])
+    one k c hc = cond_both (sends w i these l c k) (record { block = c; says = tells_now w i l c k } ∷ []) [] (AllByRecursion (λ u. ProperItem w k i (update u))) (λ e. ((hc, tells_proper w sound i k hi (due_is w these l c k (and_parts (due w these l c k) _ e).0).there c l held), tt)) (λ _. tt)
 
 -- a packet goes on over a link that is up
 onward_quiet : (o : Passed) (k : ℕ) → NoUpdate (onward o k)
@@ -36,10 +36,10 @@ onward_quiet arrived k = tt
 onward_quiet (dropped why) k = tt
 onward_quiet (handed j p) k = cond_both (eqb k j) (packet p ∷ []) [] NoUpdate (λ _. tt) (λ _. tt)
 
-onward_proper : (w : World) (i : ℕ) (o : Passed) (k : ℕ) → All (ProperItem w k i) (onward o k)
+onward_proper : (w : World) (i : ℕ) (o : Passed) (k : ℕ) → AllByRecursion (ProperItem w k i) (onward o k)
 onward_proper w i arrived k = tt
 onward_proper w i (dropped why) k = tt
-onward_proper w i (handed j p) k = cond_both (eqb k j) (packet p ∷ []) [] (All (ProperItem w k i)) (λ _. (tt, tt)) (λ _. tt)
+onward_proper w i (handed j p) k = cond_both (eqb k j) (packet p ∷ []) [] (AllByRecursion (ProperItem w k i)) (λ _. (tt, tt)) (λ _. tt)
 
 module _ (w : World) (i : ℕ) (l : Local) (p : Packet) (k : ℕ) (down : l.up k ≡ false) where
   handed_idle : (b j : ℕ) (path : List ℕ) → choice w i l b ≡ via j path → (hops : ℕ) → onward (hand p.address j hops) k ≡ []

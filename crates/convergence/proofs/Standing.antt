@@ -1,6 +1,6 @@
 -- Sound ties give every network a height. Assumes nothing.
 use Rattle.std.proofs.Common.{◌≡◌, ℕ, ◌<◌, cond, not, ◌&&◌, eqb, ltb, List, [], ◌∷◌, ap, ◌∙◌, ⊎_elim, arith}
-use Rattle.std.specs.List.{AllByRecursion as All}
+use Rattle.std.specs.List.{AllByRecursion}
 use Rattle.std.proofs.lemmas.Bool.{cases_eq}
 use Rattle.std.proofs.lemmas.Bool.Decides.{nat_tests}
 use Rattle.relations.specs.Between.{Between, opposite, Mutual, Apart, Within}
@@ -29,7 +29,7 @@ module _ (w : World) (sound : Sound w) where
   tied_below : (i j : ℕ) → tied i j ≡ Provider → (i < w.n) × (j < w.n) × (w.rel i j ≡ Provider)
   tied_below i j e = grind (arith, nat_tests)
 
-  chain_below : (i : ℕ) (xs : List ℕ) (j : ℕ) → Chain tied i xs j → (i < w.n) × All (λ x. x < w.n) xs × Chain w.rel i xs j
+  chain_below : (i : ℕ) (xs : List ℕ) (j : ℕ) → Chain tied i xs j → (i < w.n) × AllByRecursion (λ x. x < w.n) xs × Chain w.rel i xs j
   chain_below i [] j c = let b = tied_below i j c in (b.0, tt, b.2)
   chain_below i (x ∷ xs) j c = let b = tied_below i x c.0 in let r = chain_below x xs j c.1 in (b.0, (r.0, r.1), (b.2, r.2))
 

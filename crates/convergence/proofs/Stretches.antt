@@ -1,6 +1,6 @@
 -- Looking in any order settles, if every network looks in each of enough stretches. Assumes nothing.
 use Rattle.std.proofs.Common.{◌≡◌, ℕ, suc, ◌+◌, ◌<◌, Bool, List, [], ◌∷◌, length, sym, ap, ◌∙◌, subst, ⊎_elim, arith}
-use Rattle.std.specs.List.{AllByRecursion as All}
+use Rattle.std.specs.List.{AllByRecursion}
 use Rattle.std.proofs.lemmas.Bool.{cond_both, cond-true}
 use Rattle.links.specs.Stable.{Looks}
 use Rattle.convergence.specs.Channels.{System, Lawful, channel, next, looked, after_looks, after_stretches}
@@ -44,7 +44,7 @@ module _ {S C : Type 0} (y : System S C) (lawful : Lawful y) (up : ℕ → ℕ �
       (λ a i hi h. lawful.all (up i) i _ _ hi (λ j hj. h j i hj hi (lawful.low j i hj hi)) ∙ sym (stable i hi))
       stretch a i hi h (fair i hi)
 
-  pub stretches_settle : (stretch : List (ℕ → Bool)) (later : List (List (ℕ → Bool))) (m : ℕ) (a : ℕ → C) → ((i : ℕ) → i < y.n → Looks i stretch) → All (λ s. (i : ℕ) → i < y.n → Looks i s) later → m + length later ≡ y.most → Agrees m a → (i : ℕ) → i < y.n → after_stretches (next y up) (stretch ∷ later) a i ≡ e i
+  pub stretches_settle : (stretch : List (ℕ → Bool)) (later : List (List (ℕ → Bool))) (m : ℕ) (a : ℕ → C) → ((i : ℕ) → i < y.n → Looks i stretch) → AllByRecursion (λ s. (i : ℕ) → i < y.n → Looks i s) later → m + length later ≡ y.most → Agrees m a → (i : ℕ) → i < y.n → after_stretches (next y up) (stretch ∷ later) a i ≡ e i
   stretches_settle stretch [] m a fair fairs long h i hi = the_last stretch a fair (λ i k hi hk l. h i k hi hk (omega arith)) i hi
   stretches_settle stretch (s ∷ later) m a fair fairs long h i hi =
       stretches_settle s later (suc m) (after_looks (next y up) stretch a) fairs.0 fairs.1 (omega arith) (a_stretch m stretch a fair h) i hi

@@ -1,6 +1,6 @@
 -- A network that takes the oldest item in flight keeps what every step keeps. Assumes nothing.
 use Rattle.std.proofs.Common.{◌≡◌, ℕ, List, [], ◌∷◌, sym, refl, ap, ◌∙◌, subst}
-use Rattle.std.specs.List.{AllByRecursion as All}
+use Rattle.std.specs.List.{AllByRecursion}
 use Rattle.std.proofs.lemmas.Bool.{both_ways}
 use Rattle.links.specs.World.{World}
 use Rattle.links.specs.Local.{Said, Local, at}
@@ -61,7 +61,7 @@ module _ (w : World) (s : State) (h : Kept w s) (i j : ℕ) (x : Item) (rest : L
         newest = λ a k b. take_newest a k b ∙ sym (take_advertised a b k);
         held = λ a. at_cases (HoldsProper w a) j l' s.locals a (λ f. subst (λ y. HoldsProper w y l') (sym f) held) (λ _. h.held a);
         flying = λ a k.
-            queued_cases (All (ProperItem w k a)) i j rest s.flight a k
-            (λ f g. subst (λ y. All (ProperItem w k y) rest) (sym f) (subst (λ y. All (ProperItem w y i) rest) (sym g) (subst (All (ProperItem w j i)) first (h.flying i j)).1))
+            queued_cases (AllByRecursion (ProperItem w k a)) i j rest s.flight a k
+            (λ f g. subst (λ y. AllByRecursion (ProperItem w k y) rest) (sym f) (subst (λ y. AllByRecursion (ProperItem w y i) rest) (sym g) (subst (AllByRecursion (ProperItem w j i)) first (h.flying i j)).1))
             (λ _. h.flying a k);
       }

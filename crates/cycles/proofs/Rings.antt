@@ -1,6 +1,6 @@
 -- From walks to the ring that is told. Assumes nothing.
 use Rattle.std.proofs.Common.{◌≡◌, ℕ, ◌+◌, ◌<◌, ◌≤◌, ◌⊎◌, List, [], ◌∷◌, ◌++◌, length, get_or, sym, refl, ap, ◌∙◌, subst, inl, inr, ⊎_elim, append_assoc, arith}
-use Rattle.std.specs.List.{AllByRecursion as All}
+use Rattle.std.specs.List.{AllByRecursion}
 use Rattle.std.proofs.lemmas.List.{append-nil}
 use Rattle.std.proofs.ByRecursion.{All-append}
 use Rattle.std.proofs.lemmas.Bool.{cases_lt}
@@ -24,7 +24,7 @@ module _ (rel : Between) (low : ℕ) where
   pub climb_first : (k s w : ℕ) → 0 < k → Climb rel low (k + 1) s w → (v : ℕ) × (rel s v ≡ Provider) × (low ≤ v) × Climb rel low k v w
   climb_first k s w h c = at c.over c.chain c.above c.long
     where
-      at : (xs : List ℕ) → Chain rel s xs w → All (λ y. low ≤ y) xs → length xs + 1 ≡ k + 1 → (v : ℕ) × (rel s v ≡ Provider) × (low ≤ v) × Climb rel low k v w
+      at : (xs : List ℕ) → Chain rel s xs w → AllByRecursion (λ y. low ≤ y) xs → length xs + 1 ≡ k + 1 → (v : ℕ) × (rel s v ≡ Provider) × (low ≤ v) × Climb rel low k v w
       at [] d a e = let z : ⊥ = omega arith in elim z [ ]
       at (x ∷ xs) d a e = (x, d.0, a.0, record { over = xs; chain = d.1; above = a.1; ends = c.ends; long = omega arith })
 
@@ -60,7 +60,7 @@ module _ (rel : Between) (low : ℕ) where
       straight [] k d = d
       straight (x ∷ xs) k d = let z : ⊥ = omega arith in elim z [ ]
 
-      not_smaller : (other : List ℕ) → Chain rel at other low → All (λ y. low ≤ y) other → length other ≡ 0 → Smaller other [] → ⊥
+      not_smaller : (other : List ℕ) → Chain rel at other low → AllByRecursion (λ y. low ≤ y) other → length other ≡ 0 → Smaller other [] → ⊥
       not_smaller [] d a e s = s
       not_smaller (x ∷ xs) d a e s = s
 
@@ -68,7 +68,7 @@ module _ (rel : Between) (low : ℕ) where
   least_more at left next all way is n l =
       record { chain = (n.up, l.chain); above = (n.high, l.above); long = omega (arith, l.long); least = not_smaller }
     where
-      not_smaller : (other : List ℕ) → Chain rel at other low → All (λ y. low ≤ y) other → length other ≡ length (next ∷ way) → Smaller other (next ∷ way) → ⊥
+      not_smaller : (other : List ℕ) → Chain rel at other low → AllByRecursion (λ y. low ≤ y) other → length other ≡ length (next ∷ way) → Smaller other (next ∷ way) → ⊥
       not_smaller [] d a e s = s
       not_smaller (x ∷ xs) d a e s =
           let rest : length xs ≡ length way = omega arith in
@@ -93,8 +93,8 @@ module _ (rel : Between) where
     below : member < b
     leads : Chain rel i before member
     goes : Chain rel member after j
-    over : All (λ y. member ≤ y) before
-    over₂ : All (λ y. member ≤ y) after
+    over : AllByRecursion (λ y. member ≤ y) before
+    over₂ : AllByRecursion (λ y. member ≤ y) after
 
   longer : (b b₂ i y j : ℕ) → rel i y ≡ Provider → b₂ ≤ b → b₂ ≤ y → Cut b₂ y j → Cut b i j
   longer b b₂ i y j e h k c =
@@ -109,7 +109,7 @@ module _ (rel : Between) where
         over₂ = c.over₂;
       }
 
-  cut : (xs : List ℕ) (b i j : ℕ) → Chain rel i xs j → All (λ y. b ≤ y) xs ⊎ Cut b i j
+  cut : (xs : List ℕ) (b i j : ℕ) → Chain rel i xs j → AllByRecursion (λ y. b ≤ y) xs ⊎ Cut b i j
   cut [] b i j c = inl tt
   cut (y ∷ ys) b i j c =
       ⊎_elim
@@ -174,6 +174,6 @@ module _ (rel : Between) where
           (λ p.
           ⊎_elim
           (λ lt. omega (arith, lt, l.long, short.least (length ys + 1) (subst (λ z. Climb rel z (length ys + 1) z z) p.0 climb)))
-          (λ q. l.least ys (subst (λ z. Chain rel z ys z) p.0 c) (subst (λ z. All (λ u. z ≤ u) ys) p.0 f) q.0 q.1)
+          (λ q. l.least ys (subst (λ z. Chain rel z ys z) p.0 c) (subst (λ z. AllByRecursion (λ u. z ≤ u) ys) p.0 f) q.0 q.1)
           p.1)
           e

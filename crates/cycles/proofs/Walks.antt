@@ -1,6 +1,6 @@
 -- Walks up, and what one level more meets. Assumes nothing.
 use Rattle.std.proofs.Common.{◌≡◌, ℕ, zero, suc, ◌+◌, ◌*◌, ◌<◌, ◌≤◌, Bool, true, false, cond, eqb, ltb, ◌⊎◌, List, [], ◌∷◌, ◌++◌, length, get_or, set, sym, refl, ap, ◌∙◌, subst, inl, inr, ⊎_elim, arith}
-use Rattle.std.specs.List.{AllByRecursion as All}
+use Rattle.std.specs.List.{AllByRecursion}
 use Rattle.std.proofs.lemmas.List.{length_push, get_or-set_same, get_or-set_other, get_or_past}
 use Rattle.std.proofs.ByRecursion.{All-push}
 use Rattle.std.proofs.lemmas.List.Sums.{sum_by-set}
@@ -39,7 +39,7 @@ module _ (rel : Between) (low : ℕ) where
         long = omega (arith, length_push c.over v);
       }
 
-  chain_last : (x : ℕ) (xs : List ℕ) (s w : ℕ) → Chain rel s (x ∷ xs) w → All (λ y. low ≤ y) (x ∷ xs) → (v : ℕ) × (Climb rel low (length xs + 1) s v) × (rel v w ≡ Provider)
+  chain_last : (x : ℕ) (xs : List ℕ) (s w : ℕ) → Chain rel s (x ∷ xs) w → AllByRecursion (λ y. low ≤ y) (x ∷ xs) → (v : ℕ) × (Climb rel low (length xs + 1) s v) × (rel v w ≡ Provider)
   chain_last x [] s w c a = (x, climb_one s x a.0 c.0, c.1)
   chain_last x (y ∷ xs) s w c a =
       let r = chain_last y xs x w c.1 a.1 in
@@ -50,7 +50,7 @@ module _ (rel : Between) (low : ℕ) where
   pub climb_last : (k s w : ℕ) → 0 < k → Climb rel low (k + 1) s w → (v : ℕ) × Climb rel low k s v × (rel v w ≡ Provider)
   climb_last k s w h c = at c.over c.chain c.above c.long
     where
-      at : (xs : List ℕ) → Chain rel s xs w → All (λ y. low ≤ y) xs → length xs + 1 ≡ k + 1 → (v : ℕ) × Climb rel low k s v × (rel v w ≡ Provider)
+      at : (xs : List ℕ) → Chain rel s xs w → AllByRecursion (λ y. low ≤ y) xs → length xs + 1 ≡ k + 1 → (v : ℕ) × Climb rel low k s v × (rel v w ≡ Provider)
       at [] d a e = let z : ⊥ = omega arith in elim z [ ]
       at (x ∷ xs) d a e =
           let r = chain_last x xs s w d a in

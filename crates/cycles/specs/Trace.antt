@@ -1,6 +1,6 @@
 -- The way that a cycle is told by. Assumes nothing.
 use Rattle.std.specs.Prelude.{◌≡◌, ℕ, ◌+◌, ◌<◌, ◌≤◌, List, ◌++◌, length}
-use Rattle.std.specs.List.{AllByRecursion as All}
+use Rattle.std.specs.List.{AllByRecursion}
 use Rattle.relations.specs.Between.{Between}
 use Rattle.relations.specs.Cycle.{Chain, Smaller}
 use Rattle.cycles.specs.Walk.{Climb, Shortest}
@@ -16,9 +16,9 @@ pub record Next (rel : Between) (low at left next : ℕ) : Type 0 where
 -- the way over `way` is one of `left` steps from `at` up to `low`, and no other of that many is smaller in order
 pub record Least (rel : Between) (low at left : ℕ) (way : List ℕ) : Type 0 where
   pub chain : Chain rel at way low
-  pub above : All (λ y. low ≤ y) way
+  pub above : AllByRecursion (λ y. low ≤ y) way
   pub long : length way + 1 ≡ left
-  pub least : (other : List ℕ) → Chain rel at other low → All (λ y. low ≤ y) other → length other ≡ length way → Smaller other way → ⊥
+  pub least : (other : List ℕ) → Chain rel at other low → AllByRecursion (λ y. low ≤ y) other → length other ≡ length way → Smaller other way → ⊥
 
 -- the ring has such a way more at its end
 pub record Traced (rel : Between) (low at left : ℕ) (before after : List ℕ) : Type 0 where

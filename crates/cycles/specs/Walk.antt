@@ -1,6 +1,6 @@
 -- Walks up from a network, from customer to provider, and what a search by levels has met. Assumes nothing.
 use Rattle.std.specs.Prelude.{◌≡◌, ℕ, ◌+◌, ◌<◌, ◌≤◌, Bool, false, cond, List, length, count_by, nat_eq, slice_index}
-use Rattle.std.specs.List.{AllByRecursion as All}
+use Rattle.std.specs.List.{AllByRecursion}
 use Rattle.relations.specs.Between.{Between}
 use Rattle.relations.specs.Cycle.{Chain}
 use Rattle.relations.specs.declared.relation.Relation.TheVariants.{Provider}
@@ -9,7 +9,7 @@ use Rattle.relations.specs.declared.relation.Relation.TheVariants.{Provider}
 pub record Climb (rel : Between) (low k from to : ℕ) : Type 0 where
   pub over : List ℕ
   pub chain : Chain rel from over to
-  pub above : All (λ y. low ≤ y) over
+  pub above : AllByRecursion (λ y. low ≤ y) over
   pub ends : low ≤ to
   pub long : length over + 1 ≡ k
 

@@ -1,7 +1,7 @@
 -- The promise of the whole, over every state of every run of sound ties, and its parts. Each is a type; a proof of it is the
 -- theorem. Assumes nothing.
 use Rattle.std.specs.Prelude.{◌≡◌, ℕ, suc, ◌+◌, ◌*◌, ◌<◌, ◌≤◌, Bool, false, List, ◌∷◌, length, Some, None, Option}
-use Rattle.std.specs.List.{AllByRecursion as All}
+use Rattle.std.specs.List.{AllByRecursion}
 use Rattle.selection.specs.Choosing.{Choice, nothing, local, via, passes}
 use Rattle.advertisement.specs.Telling.{tells}
 use Rattle.links.specs.World.{World, Sound}
@@ -36,7 +36,7 @@ pub record AllProper (w : World) (s : State) : Type 0 where
   pub received : (i j b : ℕ) → ProperSaying w i j b ((s.locals i).received b j)
   pub advertised : (i k b : ℕ) → ProperSaying w k i b ((s.locals i).advertised b k)
   pub chosen : (i b : ℕ) → ProperChoice w i b (choice w i (s.locals i) b)
-  pub flying : (i j : ℕ) → All (ProperItem w j i) (s.flight i j)
+  pub flying : (i j : ℕ) → AllByRecursion (ProperItem w j i) (s.flight i j)
 
 -- what is in flight can be heard, and is not refused
 pub record Heard (w : World) (at : Lookup) (s : State) : Type 0 where

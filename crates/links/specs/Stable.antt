@@ -1,6 +1,6 @@
 -- The stable routing, defined from ties, links and a home alone. Assumes nothing.
 use Rattle.std.specs.Prelude.{◌≡◌, ℕ, zero, suc, ◌+◌, ◌*◌, ◌<◌, Bool, true, cond, ◌⊎◌, List, [], ◌∷◌}
-use Rattle.std.specs.List.{AllByRecursion as All}
+use Rattle.std.specs.List.{AllByRecursion}
 use Rattle.selection.specs.Choosing.{Choice, nothing, choose, shorter}
 use Rattle.advertisement.specs.Telling.{tells}
 use Rattle.links.specs.World.{World}
@@ -46,7 +46,7 @@ Looks i (who ∷ later) = (who i ≡ true) ⊎ Looks i later
 
 -- stretches of looks, in each of which every network looks
 abbrev pub Fair : World → List (List (ℕ → Bool)) → Type 0
-Fair w stretches = All (λ stretch. (i : ℕ) → i < w.n → Looks i stretch) stretches
+Fair w stretches = AllByRecursion (λ stretch. (i : ℕ) → i < w.n → Looks i stretch) stretches
 
 abbrev pub after_stretches : World → Links → ℕ → List (List (ℕ → Bool)) → Routing → Routing
 after_stretches w links b [] a = a

@@ -1,6 +1,6 @@
 -- The networks, what they are to each other, and the homes of the blocks. Assumes nothing.
 use Rattle.std.specs.Prelude.{◌≡◌, ℕ, ◌<◌, ◌≤◌, List}
-use Rattle.std.specs.List.{AllByRecursion as All}
+use Rattle.std.specs.List.{AllByRecursion}
 use Rattle.relations.specs.Between.{Between, opposite}
 use Rattle.relations.specs.Cycle.{Cycle}
 
@@ -15,4 +15,4 @@ pub record World : Type 0 where
 pub record Sound (w : World) : Type 0 where
   pub few : w.n ≤ 64
   pub both : (i j : ℕ) → i < w.n → j < w.n → w.rel j i ≡ opposite (w.rel i j)
-  pub acyclic : (ring : List ℕ) → All (λ i. i < w.n) ring → Cycle w.rel ring → ⊥
+  pub acyclic : (ring : List ℕ) → AllByRecursion (λ i. i < w.n) ring → Cycle w.rel ring → ⊥

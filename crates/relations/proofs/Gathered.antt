@@ -1,6 +1,6 @@
 -- Lists one after the other, f 0 ++ .. ++ f (k - 1). Assumes nothing.
 use Rattle.std.proofs.Common.{◌≡◌, ℕ, zero, suc, ◌+◌, ◌*◌, ◌<◌, ◌≤◌, List, [], ◌∷◌, ◌++◌, length, get_or, sym, refl, ap, ◌∙◌, subst, ⊎_elim, append_assoc, append-nil, mul-suc, add-one, arith, length-append}
-use Rattle.std.specs.List.{flat_map, AllByRecursion as All}
+use Rattle.std.specs.List.{flat_map, AllByRecursion}
 use Rattle.std.proofs.lemmas.List.{get_or_append_left, get_or-append-add}
 use Rattle.std.proofs.ByRecursion.{All-append}
 use Rattle.std.proofs.lemmas.Bool.{cases_lt, cases_eq}
@@ -43,7 +43,7 @@ module _ {X : Type 0} where
       sym (append_assoc (gather f a) (f a) t) ∙
       ap (λ l. l ++ t) (sym (gather_blank f (suc a) m (omega arith) (λ i h. blank i (omega arith))))
 
-  pub gather_all : (P : X → Type 0) (f : ℕ → List X) (m : ℕ) → ((i : ℕ) → i < m → All P (f i)) → All P (gather f m)
+  pub gather_all : (P : X → Type 0) (f : ℕ → List X) (m : ℕ) → ((i : ℕ) → i < m → AllByRecursion P (f i)) → AllByRecursion P (gather f m)
   gather_all P f zero h = tt
   gather_all P f (suc m) h = All-append P (gather f m) (f m) (gather_all P f m (λ i l. h i (omega arith))) (h m (omega arith))
 

@@ -1,6 +1,6 @@
 -- Cycles of customers, and which of them is told. Assumes nothing.
 use Rattle.std.specs.Prelude.{◌≡◌, ℕ, ◌<◌, ◌≤◌, ◌⊎◌, List, [], ◌∷◌, length}
-use Rattle.std.specs.List.{AllByRecursion as All}
+use Rattle.std.specs.List.{AllByRecursion}
 use Rattle.relations.specs.Between.{Between}
 use Rattle.relations.specs.declared.relation.Relation.TheVariants.{Provider}
 
@@ -20,7 +20,7 @@ NoCycle rel = (ring : List ℕ) → Cycle rel ring → ⊥
 -- written from its lowest member
 abbrev pub FromLowest : List ℕ → Type 0
 FromLowest [] = Unit {0}
-FromLowest (x ∷ xs) = All (λ y. x ≤ y) xs
+FromLowest (x ∷ xs) = AllByRecursion (λ y. x ≤ y) xs
 
 -- the first difference decides
 abbrev pub Smaller : List ℕ → List ℕ → Type 0

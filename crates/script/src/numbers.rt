@@ -1,7 +1,7 @@
 // Numbers in a script: words of digits.
 ghost use Rattle.std.specs.Prelude.{◌≡◌, ◌+◌, ◌-◌, ◌*◌, min, if◌then◌else◌, Some, None};
 ghost use Rattle.std.specs.Option.{option_map};
-ghost use Rattle.script.specs.Digits.{capped, is_digit, value as value_of_lem};
+ghost use Rattle.script.specs.Digits.{capped, is_digit, value as value_of};
 
 // The number that a digit is.
 fn digit(byte: u8) -> Option<u8>
@@ -23,7 +23,7 @@ fn with_digit(number: u16, digit: u8) -> u16
 
 // The number that a word of digits is; 65535 stands for all from there on. No limit is above it.
 pub(crate) fn number(word: &[u8]) -> Option<u16>
-    ensures { result ≡ option_map capped (value_of_lem word.now) }
+    ensures { result ≡ option_map capped (value_of word.now) }
 {
     let mut number = 0;
     for byte in word {

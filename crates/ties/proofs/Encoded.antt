@@ -1,7 +1,7 @@
 -- The encoding of relations in which both ends say the same reads back without a fault, as the same relations. Assumes nothing.
 use Rattle.std.proofs.Common.{◌≡◌, ℕ, zero, suc, ◌+◌, ◌*◌, ◌<◌, ◌≤◌, Bool, true, false, cond, not, ◌&&◌, ◌||◌, eqb, ltb, List, [], ◌∷◌, ◌++◌, length, get_or, drop, None, sym, refl, ap, ◌∙◌, subst, inl, inr, ⊎_elim, arith}
 use mathlib.Core.Path.{fun_ext}
-use Rattle.std.specs.List.{flat_map, AllByRecursion as All}
+use Rattle.std.specs.List.{flat_map, AllByRecursion}
 use Rattle.std.proofs.lemmas.List.{get_or-drop, drop_more}
 use Rattle.std.proofs.lemmas.Bool.{cases_lt, cases_order, cond_both, ltb-true, lt-leb, le-ltb, or_right, or_left, or_from, cond-true, lt-ltb, ne_eqb, and_right}
 use Rattle.std.proofs.lemmas.Bool.Decides.{nat_tests}
@@ -28,13 +28,13 @@ Before t u = rises t.one t.other u.one u.other ≡ true
 
 abbrev Rising : List Listed → Type 0
 Rising [] = Unit {0}
-Rising (t ∷ ts) = All (Before t) ts × Rising ts
+Rising (t ∷ ts) = AllByRecursion (Before t) ts × Rising ts
 
-rising_append : (xs ys : List Listed) → Rising xs → Rising ys → All (λ x. All (Before x) ys) xs → Rising (xs ++ ys)
+rising_append : (xs ys : List Listed) → Rising xs → Rising ys → AllByRecursion (λ x. AllByRecursion (Before x) ys) xs → Rising (xs ++ ys)
 rising_append [] ys a b c = b
 rising_append (x ∷ xs) ys a b c = (All-append (Before x) xs ys a.0 c.0, rising_append xs ys a.1 b c.1)
 
-all_cross : (P Q : Listed → Type 0) (xs ys : List Listed) → ((x y : Listed) → P x → Q y → Before x y) → All P xs → All Q ys → All (λ x. All (Before x) ys) xs
+all_cross : (P Q : Listed → Type 0) (xs ys : List Listed) → ((x y : Listed) → P x → Q y → Before x y) → AllByRecursion P xs → AllByRecursion Q ys → AllByRecursion (λ x. AllByRecursion (Before x) ys) xs
 all_cross P Q [] ys h a b = tt
 all_cross P Q (x ∷ xs) ys h a b = (All-weaker Q (Before x) (λ y. h x y a.0) ys b, all_cross P Q xs ys h a.1 b)
 
@@ -47,13 +47,13 @@ rising_at (t ∷ ts) (suc m) (suc k) r l h = rising_at ts m k r.1 (omega arith) 
 abbrev At : ℕ → ℕ → Listed → Type 0
 At i j t = (t.one ≡ i) × (t.other ≡ j)
 
-cell_at : (r : Relation) (i j : ℕ) → All (At i j) (listed r i j) × Rising (listed r i j)
+cell_at : (r : Relation) (i j : ℕ) → AllByRecursion (At i j) (listed r i j) × Rising (listed r i j)
 cell_at Unrelated i j = (tt, tt)
 cell_at Customer i j = (tt, tt)
-cell_at Peer i j = cond_both (ltb i j) _ _ (λ l. All (At i j) l × Rising l) (λ _. (((refl, refl), tt), (tt, tt))) (λ _. (tt, tt))
+cell_at Peer i j = cond_both (ltb i j) _ _ (λ l. AllByRecursion (At i j) l × Rising l) (λ _. (((refl, refl), tt), (tt, tt))) (λ _. (tt, tt))
 cell_at Provider i j = (((refl, refl), tt), (tt, tt))
 
-row_rising : (rel : Between) (i m : ℕ) → Rising (gather (λ j. listed (rel i j) i j) m) × All (λ t. (t.one ≡ i) × (t.other < m)) (gather (λ j. listed (rel i j) i j) m)
+row_rising : (rel : Between) (i m : ℕ) → Rising (gather (λ j. listed (rel i j) i j) m) × AllByRecursion (λ t. (t.one ≡ i) × (t.other < m)) (gather (λ j. listed (rel i j) i j) m)
 row_rising rel i zero = (tt, tt)
 row_rising rel i (suc m) =
     let before = row_rising rel i m in
@@ -62,7 +62,7 @@ row_rising rel i (suc m) =
       All-append _ _ _ (All-weaker _ _ (λ x p. (p.0, omega (arith, p.1))) _ before.1) (All-weaker _ _ (λ x p. (p.0, omega (arith, p.1))) _ cell.0),
     )
 
-rows_rising : (rel : Between) (n m : ℕ) → Rising (gather (λ i. gather (λ j. listed (rel i j) i j) n) m) × All (λ t. t.one < m) (gather (λ i. gather (λ j. listed (rel i j) i j) n) m)
+rows_rising : (rel : Between) (n m : ℕ) → Rising (gather (λ i. gather (λ j. listed (rel i j) i j) n) m) × AllByRecursion (λ t. t.one < m) (gather (λ i. gather (λ j. listed (rel i j) i j) n) m)
 rows_rising rel n zero = (tt, tt)
 rows_rising rel n (suc m) =
     let before = rows_rising rel n m in
@@ -90,18 +90,18 @@ record Good (n : ℕ) (rel : Between) (t : Listed) : Type 0 where
   means : meant t.kind ≡ rel t.one t.other
   known : Known t.one t.other t.kind
 
-cell_good : (n : ℕ) (rel : Between) (i j : ℕ) (r : Relation) → i < n → j < n → rel i j ≡ r → All (Good n rel) (listed r i j)
+cell_good : (n : ℕ) (rel : Between) (i j : ℕ) (r : Relation) → i < n → j < n → rel i j ≡ r → AllByRecursion (Good n rel) (listed r i j)
 cell_good n rel i j Unrelated hi hj e = tt
 cell_good n rel i j Customer hi hj e = tt
 cell_good n rel i j Peer hi hj e =
-    cond_both (ltb i j) _ _ (All (Good n rel)) (λ l. (record { one = hi; other = hj; means = sym e; known = inr (refl, ltb-true i j l) }, tt)) (λ _. tt)
+    cond_both (ltb i j) _ _ (AllByRecursion (Good n rel)) (λ l. (record { one = hi; other = hj; means = sym e; known = inr (refl, ltb-true i j l) }, tt)) (λ _. tt)
 cell_good n rel i j Provider hi hj e = (record { one = hi; other = hj; means = sym e; known = inl refl }, tt)
 
 module _ (n : ℕ) (rel : Between) («mutual» : Mutual rel) (apart : Apart rel) (within : Within n rel) where
   abbrev all_ties : List Listed
   all_ties = listing n rel
 
-  all_good : All (Good n rel) all_ties
+  all_good : AllByRecursion (Good n rel) all_ties
   all_good = gather_all _ _ n (λ i hi. gather_all _ _ n (λ j hj. cell_good n rel i j (rel i j) hi hj refl))
 
   good_at : (k : ℕ) → k < length all_ties → Good n rel (get_or all_ties k blank)
