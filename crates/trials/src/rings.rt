@@ -58,7 +58,7 @@ fn taken_as_sound(rt: HostRuntime) -> Result<(), Fail> {
 fn refused_as_unsound(rt: HostRuntime) -> Result<(), Fail> {
     match sound(table(rt, 6, &[(3, 5), (5, 4), (4, 3)])?, rt.alloc()) {
         Err(Unsound::Cycle(ring)) => {
-            assert!(rt; ring.as_slice() == &[3, 5, 4]);
+            assert!(rt; ring.as_slice() == [3, 5, 4].as_slice());
             Ok(())
         },
         _ => Err(Fail::new("not told")),
