@@ -1,6 +1,7 @@
 -- What is told, to whom. Assumes nothing.
-use Rattle.std.proofs.Common.{◌≡◌, ℕ, Bool, true, false, cond, ltb, List, [], ◌∷◌, length, Some, None, refl, ap, ◌∙◌, arith}
+use Rattle.std.proofs.Common.{◌≡◌, ℕ, Bool, true, false, cond, ltb, List, [], ◌∷◌, length, Some, None, sym, refl, ap, ◌∙◌}
 use Rattle.std.proofs.lemmas.Bool.{cond-true, lt-ltb}
+use Rattle.std.proofs.lemmas.Option.{cond_some, none-some}
 use Rattle.relations.specs.declared.relation.Relation.{Relation}
 use Rattle.relations.specs.declared.relation.Relation.TheVariants.{Unrelated, Customer, Peer, Provider}
 use Rattle.selection.specs.Choosing.{nothing, local, via, related}
@@ -25,21 +26,14 @@ may_not Provider Provider a b = refl
 pub no_free_ride_lem : NoFreeRide
 no_free_ride_lem rel me j k p a b = ap (λ t. cond t (in_front me p) None) (may_not (rel j) (rel k) a b)
 
-never : {X : Type 0} (q : List ℕ) → None ≡ Some q → X
-never q e = absurd (let z : ◌≡◌ {A = ℕ} 0 1 = cc in omega arith)
-
-one : (t : Bool) (p q : List ℕ) → cond t (Some p) None ≡ Some q → q ≡ p
-one true p q e = cc
-one false p q e = never q e
-
-two : (s t : Bool) (p q : List ℕ) → cond s (cond t (Some p) None) None ≡ Some q → q ≡ p
-two true t p q e = one t p q e
-two false t p q e = never q e
+either : (s t : Bool) (p q : List ℕ) → cond s (cond t (Some p) None) None ≡ Some q → q ≡ p
+either true t p q e = sym (cond_some t p q e).1
+either false t p q e = absurd (none-some q e)
 
 pub begins_with_teller_lem : BeginsWithTeller
-begins_with_teller_lem rel me k nothing q e = never q e
-begins_with_teller_lem rel me k local q e = one (related (rel k)) (me ∷ []) q e
-begins_with_teller_lem rel me k (via j p) q e = two (may_tell (rel j) (rel k)) (ltb (length p) 64) (me ∷ p) q e
+begins_with_teller_lem rel me k nothing q e = absurd (none-some q e)
+begins_with_teller_lem rel me k local q e = sym (cond_some (related (rel k)) (me ∷ []) q e).1
+begins_with_teller_lem rel me k (via j p) q e = either (may_tell (rel j) (rel k)) (ltb (length p) 64) (me ∷ p) q e
 
 may : (from : Relation) → related from ≡ true → may_tell from Customer ≡ true
 may Unrelated e = e

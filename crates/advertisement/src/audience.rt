@@ -4,7 +4,7 @@ ghost use Rattle.advertisement.specs.Audiences.{in_audience};
 
 use relations::MOST;
 
-// By their numbers.
+// By their numbers. An array, since hearing and turning allocate nothing.
 #[derive(Clone, Copy)]
 pub struct Audience {
     told: [bool; 64],
@@ -17,6 +17,7 @@ impl Audience {
         Audience::all(false)
     }
 
+    // Apart, since what an array literal holds is known where a contract says it.
     fn all(marked: bool) -> Audience
         ensures { result.told ≡ replicate 64 marked }
     {
@@ -26,7 +27,7 @@ impl Audience {
     pub fn contains(self, neighbour: u8) -> bool
         ensures { result ≡ in_audience self neighbour }
     {
-        neighbour < MOST && self.told[neighbour as usize]
+        self.told.get(neighbour as usize).copied().unwrap_or(false)
     }
 
     // With the neighbour too, if it is below 64.

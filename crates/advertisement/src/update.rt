@@ -7,7 +7,7 @@ ghost use Rattle.advertisement.specs.Updates.{block_of, said};
 use selection::PathTable;
 
 // The path is the first `length` of the networks, and what stands past them says nothing. Who hears it refuses a length
-// of 0 or above 64.
+// of 0 or above 64. An array and a length, since an update goes by value, in fixed memory, as its sender made it.
 #[derive(Clone, Copy)]
 pub struct Announcement {
     pub block: u16,
@@ -26,10 +26,10 @@ impl Announcement {
     pub fn path(&self) -> Option<&[u8]>
         ensures { option_map (λ x. x.now) result ≡ (if ltb 0 self.now.length && nat_le self.now.length 64 then Some (take self.now.length self.now.networks) else None) }
     {
-        if self.length == 0 || self.length > 64 {
+        if self.length == 0 {
             return None;
         }
-        Some(&self.networks[..self.length as usize])
+        self.networks.get(..self.length as usize)
     }
 }
 
@@ -39,7 +39,7 @@ impl Update {
         ensures test { is_some result ≡ (nat_lt 0 (length path.now) && nat_le (length path.now) 64) }
         ensures says { IfSome result (λ u. (block_of u ≡ block) × (said u ≡ Some path.now)) }
     {
-        if path.len() == 0 || path.len() > 64 {
+        if path.is_empty() || path.len() > 64 {
             return None;
         }
         Some(announced(block, path))

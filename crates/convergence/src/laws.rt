@@ -1,98 +1,72 @@
-// What holds of every run: each function's contract is a theorem, and its result says nothing.
+// What holds of every run: a law is the contract of a function that does nothing.
 ghost use Rattle.links.specs.Promise.{AlwaysProper, AnyOrder, Arrives, Exists, Forgets, Main, NoneRefused, OnlyOne, Settles, Stops};
 ghost use Rattle.convergence.specs.Levels.{HeightsExist, LowerDecides};
 ghost use Rattle.convergence.specs.Measure.{Falls};
 
 // Sound ties give every network a height below n, a customer below its provider.
-pub fn heights_of_sound_ties() -> u8
+pub fn heights_of_sound_ties()
     ensures { HeightsExist }
-{
-    0
-}
+{}
 
 // The one law that carries the rest: what a network tells over a channel depends only on what came over channels of
 // lower level, in whatever order paths of one rank are compared.
-pub fn lower_levels_decide() -> u8
+pub fn lower_levels_decide()
     ensures { LowerDecides }
-{
-    0
-}
+{}
 
 // The stable routing exists: 2n + 1 looks find one in which each network goes by what the others tell.
-pub fn stable_routing_exists() -> u8
+pub fn stable_routing_exists()
     ensures { Exists }
-{
-    0
-}
+{}
 
 // There is only one stable routing.
-pub fn stable_routing_is_unique() -> u8
+pub fn stable_routing_is_unique()
     ensures { OnlyOne }
-{
-    0
-}
+{}
 
 // From any start, looking in any order ends at the stable routing, if every network looks in each of 2n + 1 stretches.
-pub fn any_order_settles() -> u8
+pub fn any_order_settles()
     ensures { AnyOrder }
-{
-    0
-}
+{}
 
 // At every moment of every run each path that is received, advertised, gone by or in flight is proper.
-pub fn paths_are_always_proper() -> u8
+pub fn paths_are_always_proper()
     ensures { AlwaysProper }
-{
-    0
-}
+{}
 
 // No update of a run is refused, and whatever is in flight can be heard.
-pub fn none_is_refused() -> u8
+pub fn none_is_refused()
     ensures { NoneRefused }
-{
-    0
-}
+{}
 
 // What is left in flight, weighed by the levels of its channels, falls with every move of every run.
-pub fn what_is_left_falls() -> u8
+pub fn what_is_left_falls()
     ensures { Falls }
-{
-    0
-}
+{}
 
 // From every state of every run the telling ends, whichever item is heard next, if links stay as they are.
-pub fn telling_ends() -> u8
+pub fn telling_ends()
     ensures { Stops }
-{
-    0
-}
+{}
 
 // When no update is in flight every network goes by the stable routing, and nothing else is left in any table.
-pub fn quiescence_is_stable() -> u8
+pub fn quiescence_is_stable()
     ensures { Settles }
-{
-    0
-}
+{}
 
 // Two states of runs in which no update is in flight and the same links are up hold the same, whatever their past.
-pub fn past_is_forgotten() -> u8
+pub fn past_is_forgotten()
     ensures { Forgets }
-{
-    0
-}
+{}
 
 // When no update is in flight, a packet with enough hops left arrives at its home, after exactly as many steps as its
 // path has networks.
-pub fn packets_arrive() -> u8
+pub fn packets_arrive()
     ensures { Arrives }
-{
-    0
-}
+{}
 
 // The whole, of every state of every run: the telling ends, nothing is stuck or refused, it ends at the one stable
 // routing, packets then arrive, and no unpaid path is ever held.
-pub fn promise() -> u8
+pub fn promise()
     ensures { Main }
-{
-    0
-}
+{}

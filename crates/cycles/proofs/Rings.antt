@@ -1,12 +1,12 @@
 -- From walks to the ring that is told. Assumes nothing.
-use Rattle.std.proofs.Common.{◌≡◌, ℕ, ◌+◌, ◌<◌, ◌≤◌, ◌⊎◌, List, [], ◌∷◌, ◌++◌, length, get_or, sym, refl, ap, ◌∙◌, subst, inl, inr, ⊎_elim, append_assoc, arith}
+use Rattle.std.proofs.Common.{◌≡◌, ℕ, ◌+◌, ◌<◌, ◌≤◌, ◌⊎◌, List, [], ◌∷◌, ◌++◌, length, sym, refl, ap, ◌∙◌, subst, inl, inr, ⊎_elim, append_assoc, arith}
 use Rattle.std.specs.List.{AllByRecursion}
 use Rattle.std.proofs.lemmas.List.{append-nil}
 use Rattle.std.proofs.ByRecursion.{All-append}
 use Rattle.std.proofs.lemmas.Bool.{cases_lt}
 use Rattle.relations.specs.Between.{Between, Within}
 use Rattle.relations.specs.Cycle.{Chain, Cycle, NoCycle, FromLowest, Smaller, Earlier, First}
-use Rattle.cycles.specs.Walk.{Climb, Shortest, Walked}
+use Rattle.cycles.specs.Walk.{Climb, Fewest, Shortest}
 use Rattle.cycles.specs.Trace.{Least, Next, Traced}
 use Rattle.relations.specs.declared.relation.Relation.TheVariants.{Provider}
 use Rattle.relations.proofs.Chains.{among, chain_join}
@@ -28,23 +28,20 @@ module _ (rel : Between) (low : ℕ) where
       at [] d a e = let z : ⊥ = omega arith in elim z [ ]
       at (x ∷ xs) d a e = (x, d.0, a.0, record { over = xs; chain = d.1; above = a.1; ends = c.ends; long = omega arith })
 
-  module _ (at left v : ℕ) (steps : List ℕ) (some : 0 < left) (short : Shortest rel low (left + 1) at low) (up : rel at v ≡ Provider) (high : low ≤ v) (walked : Walked rel low v steps) where
+  module _ (at left v k : ℕ) (some : 0 < left) (short : Shortest rel low (left + 1) at low) (up : rel at v ≡ Provider) (high : low ≤ v) (fewest : Fewest rel low k v low) where
     -- where as many steps lead on as are left, the walk goes on there
-    pub goes_on : get_or steps low 0 ≡ left → Shortest rel low left v low
+    pub goes_on : k ≡ left → Shortest rel low left v low
     goes_on is =
-        record {
-          walk = subst (λ k. Climb rel low k v low) is (walked.real low (omega arith));
-          least = λ m c. omega (arith, (walked.least m low c).1);
-        }
+        record { walk = subst (λ m. Climb rel low m v low) is (fewest.real (omega arith)); least = λ m c. omega (arith, (fewest.least m c).1) }
 
-    pub goes_not : (get_or steps low 0 ≡ left → ⊥) → Climb rel low left v low → ⊥
+    pub goes_not : (k ≡ left → ⊥) → Climb rel low left v low → ⊥
     goes_not other c =
-        let most = walked.least left low c in
-        let over = short.least (get_or steps low 0 + 1) (climb_front (get_or steps low 0) at v low up high (walked.real low most.0)) in
+        let most = fewest.least left c in
+        let over = short.least (k + 1) (climb_front k at v low up high (fewest.real most.0)) in
         other (omega (arith, most.1, over))
 
-  pub walked_shortest : (v w : ℕ) (steps : List ℕ) → Walked rel low v steps → 0 < get_or steps w 0 → Shortest rel low (get_or steps w 0) v w
-  walked_shortest v w steps walked h = record { walk = walked.real w h; least = λ m c. (walked.least m w c).1 }
+  pub fewest_shortest : (k v w : ℕ) → Fewest rel low k v w → 0 < k → Shortest rel low k v w
+  fewest_shortest k v w fewest h = record { walk = fewest.real h; least = λ m c. (fewest.least m c).1 }
 
   least_one : (at left : ℕ) → Shortest rel low left at low → left ≤ 1 → Least rel low at left []
   least_one at left short h =
@@ -148,11 +145,11 @@ module _ (rel : Between) where
   first_of i j (x ∷ xs) c = (x, c.0)
 
   -- no cycle has its lowest member below `low`, nor at it where the walk does not come back
-  pub none_more : (low : ℕ) (steps : List ℕ) → Walked rel low low steps → get_or steps low 0 ≤ 0 → ((l k : ℕ) → l < low → Climb rel l k l l → ⊥) → (l k : ℕ) → l < low + 1 → Climb rel l k l l → ⊥
-  none_more low steps walked back none l k h c =
+  pub none_more : (low back : ℕ) → Fewest rel low back low low → back ≤ 0 → ((l k : ℕ) → l < low → Climb rel l k l l → ⊥) → (l k : ℕ) → l < low + 1 → Climb rel l k l l → ⊥
+  none_more low back fewest none_back none l k h c =
       ⊎_elim
       (λ lt. none l k lt c)
-      (λ le. let is : l ≡ low = omega arith in omega (arith, (walked.least k low (subst (λ z. Climb rel z k z z) is c)).0))
+      (λ le. let is : l ≡ low = omega arith in omega (arith, (fewest.least k (subst (λ z. Climb rel z k z z) is c)).0))
       (cases_lt l low)
 
   pub no_cycle : (n : ℕ) → Within n rel → ((l k : ℕ) → l < n → Climb rel l k l l → ⊥) → NoCycle rel

@@ -1,23 +1,25 @@
 -- Walks up, and what one level more meets. Assumes nothing.
-use Rattle.std.proofs.Common.{◌≡◌, ℕ, zero, suc, ◌+◌, ◌*◌, ◌<◌, ◌≤◌, Bool, true, false, cond, eqb, ltb, ◌⊎◌, List, [], ◌∷◌, ◌++◌, length, get_or, set, sym, refl, ap, ◌∙◌, subst, inl, inr, ⊎_elim, arith}
+use Rattle.std.proofs.Common.{◌≡◌, ℕ, zero, suc, ◌+◌, ◌<◌, ◌≤◌, Bool, true, false, cond, eqb, ◌⊎◌, List, [], ◌∷◌, ◌++◌, length, get_or, set, sym, refl, ap, ◌∙◌, subst, inl, inr, ⊎_elim, arith}
 use Rattle.std.specs.List.{AllByRecursion}
-use Rattle.std.proofs.lemmas.List.{length_push, get_or-set_same, get_or-set_other, get_or_past}
+use Rattle.std.proofs.lemmas.List.{length_push, get_or-set_same, get_or-set_other}
 use Rattle.std.proofs.ByRecursion.{All-push}
 use Rattle.std.proofs.lemmas.List.Sums.{sum_by-set}
-use Rattle.std.proofs.lemmas.Bool.{cases_eq, cases_lt, cond-false, le-ltb}
+use Rattle.std.proofs.lemmas.Bool.{cases_eq, cases_lt}
 use Rattle.std.proofs.lemmas.Bool.Decides.{nat_tests}
-use Rattle.relations.specs.Between.{Between, between}
+use Rattle.relations.specs.Between.{Between, Mutual, Within, opposite}
 use Rattle.relations.specs.Cycle.{Chain}
 use Rattle.cycles.specs.Walk.{Climb, Known, Spread, Walked}
-use Rattle.relations.specs.declared.relation.Relation.{Relation}
-use Rattle.relations.specs.declared.relation.Relation.TheVariants.{Unrelated, Provider}
+use Rattle.relations.specs.declared.relation.Relation.TheVariants.{Customer, Provider}
 
 -- a provider stands in the table
-pub in_table : (rows : List Relation) (i j : ℕ) → between rows i j ≡ Provider → j < 64
-in_table rows i j e =
+pub in_table : (rel : Between) (n i j : ℕ) → Mutual rel → Within n rel → n ≤ 64 → rel i j ≡ Provider → j < 64
+in_table rel n i j both within few e =
     ⊎_elim
     (λ h. h)
-    (λ h. let out = cond-false (ltb j 64) (get_or rows (i * 64 + j) Unrelated) Unrelated (le-ltb j 64 h) in let z : ◌≡◌ {A = ℕ} 0 1 = cc in omega arith)
+    (λ h.
+    let back : rel j i ≡ Customer = both i j ∙ ap opposite e in
+    let out = within j i (omega arith) in
+    let z : ◌≡◌ {A = ℕ} 0 1 = cc in omega arith)
     (cases_lt j 64)
 
 module _ (rel : Between) (low : ℕ) where
@@ -57,15 +59,8 @@ module _ (rel : Between) (low : ℕ) where
           let same : length xs + 1 ≡ k = omega arith in
           (r.0, subst (λ n. Climb rel low n s r.0) same r.1, r.2)
 
-  pub climb_some : (k s w : ℕ) → Climb rel low k s w → 0 < k
-  climb_some k s w c = omega (arith, c.long)
-
   -- what is met for a part of the sources, and for more of them
   module _ (step : ℕ) (before : List ℕ) where
-    pub spread_none : (S : ℕ → ℕ → Type 0) → ((v w : ℕ) → S v w → low ≤ w → ⊥) → Spread rel low step S before before false
-    spread_none S none =
-        record { kept = λ w h. refl; added = λ w e h. let z : ⊥ = omega arith in elim z [ ]; all = λ v w s h e. let z : ⊥ = none v w s h in elim z [ ]; fewer = omega arith; same = λ _. refl }
-
     module _ (after : List ℕ) (met : Bool) (S S' : ℕ → ℕ → Type 0) (old : Spread rel low step S before after met) (more : (v w : ℕ) → S v w → S' v w) where
       pub spread_skip : ((v w : ℕ) → S' v w → rel v w ≡ Provider → S v w ⊎ (0 < get_or after w 0)) → Spread rel low step S' before after met
       spread_skip back =
@@ -221,7 +216,7 @@ module _ (rel : Between) (low : ℕ) where
     -- a level that meets none is the last
     pub walked_last : after ≡ before → Walked rel low s after
     walked_last same =
-        subst (λ l. Walked rel low s l) (sym same) (record { real = λ w seen. (known.real w seen).0; least = λ m w c. seen_all same m w c })
+        subst (λ l. Walked rel low s l) (sym same) (λ w. record { real = λ seen. (known.real w seen).0; least = λ m c. seen_all same m w c })
 
   -- the providers of the first network
   pub known_one : (s : ℕ) (before after : List ℕ) (met : Bool) → ((w : ℕ) → get_or before w 0 ≡ 0) → Spread rel low 1 (λ v w. v ≡ s) before after met → Known rel low 1 s after
@@ -237,9 +232,3 @@ module _ (rel : Between) (low : ℕ) where
       only : (xs : List ℕ) (w m : ℕ) → length xs + 1 ≡ m → m ≤ 1 → Chain rel s xs w → rel s w ≡ Provider
       only [] w m e h c = c
       only (x ∷ xs) w m e h c = let z : ⊥ = omega arith in elim z [ ]
-
-pub clear_all : (l : List ℕ) (n : ℕ) → length l ≤ n → ((w : ℕ) → w < n → get_or l w 0 ≡ 0) → (w : ℕ) → get_or l w 0 ≡ 0
-clear_all l n h z w = ⊎_elim (λ lt. z w lt) (λ le. get_or_past l w 0 (omega arith)) (cases_lt w n)
-
-pub seen_within : (l : List ℕ) (v : ℕ) → 0 < get_or l v 0 → v < length l
-seen_within l v h = ⊎_elim (λ lt. lt) (λ le. let z = get_or_past l v 0 le in omega arith) (cases_lt v (length l))

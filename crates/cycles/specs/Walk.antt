@@ -35,7 +35,11 @@ pub record Known (rel : Between) (low level start : ℕ) (steps : List ℕ) : Ty
   pub real : (w : ℕ) → 0 < slice_index steps w → Climb rel low (slice_index steps w) start w × (slice_index steps w ≤ level)
   pub least : (m w : ℕ) → m ≤ level → Climb rel low m start w → (0 < slice_index steps w) × (slice_index steps w ≤ m)
 
+-- k is the least number of steps from one network up to another, and 0 where no walk leads there
+pub record Fewest (rel : Between) (low k from to : ℕ) : Type 0 where
+  pub real : 0 < k → Climb rel low k from to
+  pub least : (m : ℕ) → Climb rel low m from to → (0 < k) × (k ≤ m)
+
 -- `steps` has for each network the least number of steps up to it, and 0 where no walk leads there
-pub record Walked (rel : Between) (low start : ℕ) (steps : List ℕ) : Type 0 where
-  pub real : (w : ℕ) → 0 < slice_index steps w → Climb rel low (slice_index steps w) start w
-  pub least : (m w : ℕ) → Climb rel low m start w → (0 < slice_index steps w) × (slice_index steps w ≤ m)
+abbrev pub Walked : Between → ℕ → ℕ → List ℕ → Type 0
+Walked rel low start steps = (w : ℕ) → Fewest rel low (slice_index steps w) start w

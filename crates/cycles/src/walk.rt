@@ -1,72 +1,87 @@
 // Walking up from a network, from customer to provider, level by level.
-ghost use Rattle.std.specs.Prelude.{◌≡◌, ℕ, ◌+◌, ◌<◌, ◌≤◌, length, slice_index};
+ghost use Rattle.std.specs.Prelude.{◌≡◌, ℕ, ◌+◌, ◌<◌, ◌≤◌, slice_index};
 ghost use Rattle.relations.specs.Between.{provider};
 ghost use Rattle.relations.specs.Table.{rel};
-ghost use Rattle.cycles.specs.Walk.{Known, Spread, Walked, unseen};
+ghost use Rattle.cycles.specs.Walk.{Fewest, Known, Spread, Walked, unseen};
 
 use relations::{MOST, Matrix, Relation};
 
-// Is network `to` a provider of network `from`?
-pub(crate) fn provides(matrix: &Matrix, from: u8, to: u8) -> bool
-    ensures { result ≡ provider (rel matrix.now from to) }
-{
-    match matrix.relation(from, to) {
-        Relation::Provider => true,
-        _ => false,
-    }
+// For each network how few steps lead up to it from where a walk starts; 0 where none do, and no `Option`, since a level is
+// compared with all of them.
+type Steps = [u8; 64];
+
+// The networks from `low` on, of those in a table.
+#[derive(Clone, Copy)]
+pub(crate) struct Slope<'a> {
+    pub matrix: &'a Matrix,
+    pub low: u8,
+    ghost is_in_table: { low < 64 },
 }
 
-// Writes `step` for each provider of `from`, from `low` on, that is not yet seen. Was there any?
-fn meet(matrix: &Matrix, low: u8, from: u8, step: u8, steps: &mut [u8]) -> bool
-    requires long { length steps.old ≡ 64 }
-    requires some { 0 < step }
-    ensures { Spread (rel matrix.now) low step (λ v w. v ≡ from) steps.old steps.new result }
-{
-    let mut met = false;
-    for w in low..MOST {
-        if steps[w as usize] == 0 && provides(matrix, from, w) {
-            steps[w as usize] = step;
-            met = true;
+impl Slope<'_> {
+    // Is network `to` a provider of network `from`?
+    pub(crate) fn provides(self, from: u8, to: u8) -> bool
+        ensures { result ≡ provider (rel self.entry.matrix.now from to) }
+    {
+        self.matrix.relation(from, to) == Relation::Provider
+    }
+
+    // Writes `step` for each provider of `from`, from `low` on, that is not yet seen. Was there any?
+    fn meet(self, from: u8, step: u8, steps: &mut Steps) -> bool
+        requires { 0 < step }
+        ensures { Spread (rel self.entry.matrix.now) self.entry.low step (λ v w. v ≡ from) steps.old steps.new result }
+    {
+        let mut met = false;
+        // over numbers, since each is asked of the table, and written at
+        for w in self.low..MOST {
+            if steps[w as usize] == 0 && self.provides(from, w) {
+                steps[w as usize] = step;
+                met = true;
+            }
+        }
+        met
+    }
+
+    // Goes one step on from each network that `level` steps lead to. Was a network met that was not yet seen?
+    fn rise(self, level: u8, steps: &mut Steps) -> bool
+        requires { (0 < level) × (level < 255) }
+        ensures { Spread (rel self.entry.matrix.now) self.entry.low (level + 1) (λ v w. slice_index steps.old v ≡ level) steps.old steps.new result }
+    {
+        let mut met = false;
+        // over numbers, since `meet` takes each, and writes to the whole
+        for v in 0..MOST {
+            if steps[v as usize] == level && self.meet(v, level + 1, steps) {
+                met = true;
+            }
+        }
+        met
+    }
+
+    // Rises for as long as that meets a network not yet seen.
+    fn climb(self, level: u8, steps: &mut Steps)
+        requires some { 0 < level }
+        requires bound { level + unseen steps.old ≤ 65 }
+        ensures { (start : ℕ) → Known (rel self.entry.matrix.now) self.entry.low level start steps.old → Walked (rel self.entry.matrix.now) self.entry.low start steps.new }
+    {
+        if self.rise(level, steps) {
+            self.climb(level + 1, steps);
         }
     }
-    met
-}
 
-// Goes one step on from each network that `level` steps lead to. Was a network met that was not yet seen?
-fn rise(matrix: &Matrix, low: u8, level: u8, steps: &mut [u8]) -> bool
-    requires long { length steps.old ≡ 64 }
-    requires some { (0 < level) × (level < 255) }
-    ensures { Spread (rel matrix.now) low (level + 1) (λ v w. slice_index steps.old v ≡ level) steps.old steps.new result }
-{
-    let mut met = false;
-    for v in 0..MOST {
-        if steps[v as usize] == level && meet(matrix, low, v, level + 1, steps) {
-            met = true;
-        }
+    // For each network how few steps lead up to it from `start`, over networks from `low` on.
+    fn walk_up(self, start: u8) -> Steps
+        ensures { Walked (rel self.entry.matrix.now) self.entry.low start result }
+    {
+        let mut steps = [0; 64];
+        self.meet(start, 1, &mut steps);
+        self.climb(1, &mut steps);
+        steps
     }
-    met
-}
 
-// Rises for as long as that meets a network not yet seen.
-fn climb(matrix: &Matrix, low: u8, level: u8, steps: &mut [u8])
-    requires long { length steps.old ≡ 64 }
-    requires some { 0 < level }
-    requires bound { level + unseen steps.old ≤ 65 }
-    ensures { (start : ℕ) → Known (rel matrix.now) low level start steps.old → Walked (rel matrix.now) low start steps.new }
-{
-    if rise(matrix, low, level, steps) {
-        climb(matrix, low, level + 1, steps);
+    // How few steps lead up from `start` to `low`, over networks from `low` on; 0 where none do.
+    pub(crate) fn steps_to_low(self, start: u8) -> u8
+        ensures { Fewest (rel self.entry.matrix.now) self.entry.low result start self.entry.low }
+    {
+        self.walk_up(start)[self.low as usize]
     }
-}
-
-// Writes for each network how few steps lead up to it from `start`, over networks from `low` on; 0 where none do.
-pub(crate) fn walk_up(matrix: &Matrix, low: u8, start: u8, steps: &mut [u8])
-    requires { length steps.old ≡ 64 }
-    ensures { Walked (rel matrix.now) low start steps.new }
-{
-    for k in steps.iter_mut() {
-        *k = 0;
-    }
-    meet(matrix, low, start, 1, steps);
-    climb(matrix, low, 1, steps);
 }

@@ -1,5 +1,6 @@
 -- Which fault of an announcement is told: of its networks, its teller or its way. Assumes nothing.
-use Rattle.std.proofs.Common.{◌≡◌, ℕ, ◌<◌, ◌≤◌, Bool, true, false, cond, not, ◌&&◌, ◌||◌, eqb, ltb, leb, List, [], ◌∷◌, length, take, replicate, Some, None, Option, sym, refl, ap, ◌∙◌, arith, length-append}
+use Rattle.std.proofs.Common.{◌≡◌, ℕ, ◌≤◌, Bool, true, false, cond, not, ◌&&◌, ◌||◌, eqb, ltb, leb, List, [], ◌∷◌, length, take, replicate, Some, None, Option, sym, refl, ap, ◌∙◌, arith, length-append}
+use Rattle.selection.specs.Choosing.{related}
 use mathlib.Core.Path.{fun_ext}
 use lib.ListN.{length-replicate}
 use Rattle.std.proofs.lemmas.List.{length-take-le, take-append-le}
@@ -7,7 +8,6 @@ use Rattle.std.proofs.lemmas.Bool.Decides.{nat_tests}
 use Rattle.links.specs.declared.fault.Fault.{Fault}
 use Rattle.links.specs.declared.fault.Fault.TheVariants.{BadLength, NoSuchNetwork, NoSuchBlock, NotRelated, LinkDown, WrongStart, WrongEnd, Repeats, NotPaid, NoLink}
 use Rattle.relations.proofs.Firsts.{none_of}
-use Rattle.selection.specs.Choosing.{related}
 use Rattle.links.specs.World.{World}
 use Rattle.links.specs.Local.{Update, Local}
 use Rattle.links.specs.Paths.{below}
@@ -28,11 +28,11 @@ none_has has e NotPaid = (none_of has faults e).1.1.1.1.1.1.1.1.0
 none_has has e NoLink = (none_of has faults e).1.1.1.1.1.1.1.1.1.0
 
 -- what is told of the teller is told whatever comes after it
-teller_first : (a b c d : Bool) (rest : Option Fault) (f : Fault) → cond a (Some NoSuchNetwork) (cond b (Some NoSuchBlock) (cond c (Some NotRelated) (cond d (Some LinkDown) None))) ≡ Some f → Some f ≡ cond a (Some NoSuchNetwork) (cond b (Some NoSuchBlock) (cond c (Some NotRelated) (cond d (Some LinkDown) rest)))
-teller_first true b c d rest f e = sym e
-teller_first false true c d rest f e = sym e
-teller_first false false true d rest f e = sym e
-teller_first false false false true rest f e = sym e
+teller_first : (a b c d : Bool) (rest : Option Fault) (f : Fault) → cond a (Some NoSuchNetwork) (cond b (Some NoSuchBlock) (cond c (Some NotRelated) (cond d (Some LinkDown) None))) ≡ Some f → cond a (Some NoSuchNetwork) (cond b (Some NoSuchBlock) (cond c (Some NotRelated) (cond d (Some LinkDown) rest))) ≡ Some f
+teller_first true b c d rest f e = e
+teller_first false true c d rest f e = e
+teller_first false false true d rest f e = e
+teller_first false false false true rest f e = e
 teller_first false false false false rest f e = cc
 
 or_none : (b : Bool) → b ≡ (b || false)
@@ -46,22 +46,13 @@ module _ (w : World) (i : ℕ) (s : Local) (j block : ℕ) (p : List ℕ) where
   abbrev bad : Bool
   bad = eqb (length p) 0 || ltb 64 (length p)
 
-  pub bad_length : bad ≡ true → Some BadLength ≡ hearing_fault w i s j heard
-  bad_length e = ap (λ b. cond (b || false || false) (Some BadLength) (first_of (hearing_has w i s j heard) (NoSuchNetwork ∷ NoSuchBlock ∷ NotRelated ∷ LinkDown ∷ WrongStart ∷ WrongEnd ∷ Repeats ∷ NotPaid ∷ NoLink ∷ []))) (sym e)
-
   module _ (long : bad ≡ false) where
-    past_length : first_of (hearing_has w i s j heard) (NoSuchNetwork ∷ NoSuchBlock ∷ NotRelated ∷ LinkDown ∷ WrongStart ∷ WrongEnd ∷ Repeats ∷ NotPaid ∷ NoLink ∷ []) ≡ hearing_fault w i s j heard
-    past_length = ap (λ b. cond (b || false || false) (Some BadLength) (first_of (hearing_has w i s j heard) (NoSuchNetwork ∷ NoSuchBlock ∷ NotRelated ∷ LinkDown ∷ WrongStart ∷ WrongEnd ∷ Repeats ∷ NotPaid ∷ NoLink ∷ []))) (sym long)
-
-    pub not_below : below w.n p ≡ false → Some NoSuchNetwork ≡ hearing_fault w i s j heard
-    not_below e = ap (λ b. cond (not b || false || leb w.n j) (Some NoSuchNetwork) (first_of (hearing_has w i s j heard) (NoSuchBlock ∷ NotRelated ∷ LinkDown ∷ WrongStart ∷ WrongEnd ∷ Repeats ∷ NotPaid ∷ NoLink ∷ []))) (sym e) ∙ past_length
-
     module _ (there : below w.n p ≡ true) where
-      past_networks : cond (leb w.n j) (Some NoSuchNetwork) (first_of (hearing_has w i s j heard) (NoSuchBlock ∷ NotRelated ∷ LinkDown ∷ WrongStart ∷ WrongEnd ∷ Repeats ∷ NotPaid ∷ NoLink ∷ [])) ≡ hearing_fault w i s j heard
-      past_networks = ap (λ b. cond (not b || false || leb w.n j) (Some NoSuchNetwork) (first_of (hearing_has w i s j heard) (NoSuchBlock ∷ NotRelated ∷ LinkDown ∷ WrongStart ∷ WrongEnd ∷ Repeats ∷ NotPaid ∷ NoLink ∷ []))) (sym there) ∙ past_length
+      past_networks : hearing_fault w i s j heard ≡ cond (leb w.n j) (Some NoSuchNetwork) (first_of (hearing_has w i s j heard) (NoSuchBlock ∷ NotRelated ∷ LinkDown ∷ WrongStart ∷ WrongEnd ∷ Repeats ∷ NotPaid ∷ NoLink ∷ []))
+      past_networks = (λ x. cond (long x || false || false) (Some BadLength) (cond (not (there x) || false || leb w.n j) (Some NoSuchNetwork) (first_of (hearing_has w i s j heard) (NoSuchBlock ∷ NotRelated ∷ LinkDown ∷ WrongStart ∷ WrongEnd ∷ Repeats ∷ NotPaid ∷ NoLink ∷ []))))
 
-      pub of_teller : (f : Fault) → told (teller_has w i s j block) ≡ Some f → Some f ≡ hearing_fault w i s j heard
-      of_teller f e = teller_first (leb w.n j) (leb w.blocks block) (not (related (w.rel i j))) (not (s.up j)) (first_of (hearing_has w i s j heard) (WrongStart ∷ WrongEnd ∷ Repeats ∷ NotPaid ∷ NoLink ∷ [])) f e ∙ past_networks
+      pub of_teller : (f : Fault) → told (teller_has w i s j block) ≡ Some f → hearing_fault w i s j heard ≡ Some f
+      of_teller f e = past_networks ∙ teller_first (leb w.n j) (leb w.blocks block) (not (related (w.rel i j))) (not (s.up j)) (first_of (hearing_has w i s j heard) (WrongStart ∷ WrongEnd ∷ Repeats ∷ NotPaid ∷ NoLink ∷ [])) f e
 
       pub of_way : told (teller_has w i s j block) ≡ None → told (way_has w.rel i j (w.home block) p) ≡ hearing_fault w i s j heard
       of_way e = ap told (fun_ext each)
@@ -88,12 +79,6 @@ length_padded networks k = length-take-le k _ (omega (arith, length-append netwo
 padded_is : (networks : List ℕ) (k : ℕ) → length networks ≡ 64 → k ≤ 64 → padded networks k ≡ take k networks
 padded_is networks k long small = take-append-le k networks (replicate k 0) (omega arith)
 
-pub no_path : (networks : List ℕ) (k : ℕ) → None ≡ cond (ltb 0 k && leb k 64) (Some (take k networks)) None → (eqb (length (padded networks k)) 0 || ltb 64 (length (padded networks k))) ≡ true
-no_path networks k e = let l = length_padded networks k in ap (λ m. eqb m 0 || ltb 64 m) l ∙ wrong k (take k networks) e
-  where
-    wrong : (k : ℕ) (p : List ℕ) → None ≡ cond (ltb 0 k && leb k 64) (Some p) None → (eqb k 0 || ltb 64 k) ≡ true
-    wrong k p e = grind (arith, nat_tests)
-
 pub a_path : (networks : List ℕ) (k : ℕ) (p : List ℕ) → length networks ≡ 64 → Some p ≡ cond (ltb 0 k && leb k 64) (Some (take k networks)) None → ((eqb (length (padded networks k)) 0 || ltb 64 (length (padded networks k))) ≡ false) × (padded networks k ≡ p)
 a_path networks k p room e =
     let right = fits k p (take k networks) e in
@@ -105,13 +90,3 @@ a_path networks k p room e =
 pub some_is : (b : Bool) (x y : ℕ) → Some x ≡ cond b (Some y) None → x ≡ y
 some_is true x y e = cc
 some_is false x y e = cc
-
--- the path of an announcement has a place in a row
-pub taken_path : (networks : List ℕ) (k : ℕ) (p : List ℕ) → length networks ≡ 64 → Some p ≡ cond (ltb 0 k && leb k 64) (Some (take k networks)) None → (0 < length p) × (length p ≤ 64)
-taken_path networks k p room e =
-    let right = fits k p (take k networks) e in
-    let long = ap length right.2 ∙ length-take-le k networks (omega (arith, right.1)) in
-    (omega (arith, long, right.0), omega (arith, long, right.1))
-  where
-    fits : (k : ℕ) (p q : List ℕ) → Some p ≡ cond (ltb 0 k && leb k 64) (Some q) None → (0 < k) × (k ≤ 64) × (p ≡ q)
-    fits k p q e = grind (arith, nat_tests)

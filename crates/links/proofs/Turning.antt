@@ -1,14 +1,12 @@
 -- What a turn leaves, block by block. Assumes nothing.
-use Rattle.std.proofs.Common.{◌≡◌, ℕ, ◌+◌, ◌<◌, ◌≤◌, Bool, true, cond, not, ◌&&◌, eqb, ltb, List, length, get_or, set, Some, None, sym, refl, ap, ◌∙◌, ⊎_elim, arith}
+use Rattle.std.proofs.Common.{◌≡◌, ℕ, ◌+◌, ◌<◌, Bool, true, cond, not, ◌&&◌, eqb, ltb, List, length, get_or, set, Some, None, sym, refl, ap, ◌∙◌, ⊎_elim, arith}
 use Rattle.std.proofs.lemmas.List.{get_or-set_same, get_or-set_other}
-use Rattle.std.proofs.lemmas.Bool.{cases_lt, cases_eq, le-ltb, lt-ltb, cond-false, and_left, eq-eqb, lt-leb}
+use Rattle.std.proofs.lemmas.Bool.{cases_eq, le-ltb, eq-eqb, lt-leb}
 use Rattle.std.proofs.lemmas.Bool.Decides.{nat_tests}
 use Rattle.relations.specs.declared.relation.Relation.{Relation}
 use Rattle.relations.specs.declared.relation.Relation.TheVariants.{Unrelated, Customer, Peer, Provider}
 use Rattle.selection.specs.Choosing.{related}
 use Rattle.selection.specs.Rows.{with_row}
-use Rattle.selection.specs.Paths.{count, row}
-use Rattle.selection.specs.declared.table.PathTable.{PathTable}
 use Rattle.advertisement.specs.Sayings.{same_saying}
 use Rattle.advertisement.specs.Audiences.{in_audience}
 use Rattle.advertisement.specs.declared.audience.Audience.{Audience}
@@ -25,37 +23,15 @@ forgotten_to m j rows b k = cond (ltb b m && eqb k j) None (rows b k)
 pub forget_more : (m j : ℕ) (rows : ℕ → ℕ → Said) (now next : ℕ → ℕ → Said) → ((b k : ℕ) → now b k ≡ forgotten_to m j rows b k) → ((b k : ℕ) → next b k ≡ with_row now m j None b k) → (b k : ℕ) → next b k ≡ forgotten_to (m + 1) j rows b k
 forget_more m j rows now next h step b k = let e = step b k in let f = h b k in grind (arith, nat_tests)
 
-pub row_past : (t : PathTable) (b k : ℕ) → count t ≤ b → row t b k ≡ None
-row_past t b k h = cond-false _ _ _ (and_left (ltb b (count t)) _ (le-ltb b (count t) h))
-
-pub forget_all : (m j : ℕ) (t : PathTable) → count t ≤ m → (b k : ℕ) → forgotten_to m j (row t) b k ≡ at j None (row t b) k
-forget_all m j t few b k =
-    ⊎_elim
-    (λ h. let e = lt-ltb b m h in grind (arith, nat_tests))
-    (λ h. let e = le-ltb b m h in let f = row_past t b k (omega arith) in grind (arith, nat_tests))
-    (cases_lt b m)
-
 -- the first m blocks
 abbrev pub before : ℕ → ℕ → Bool
 before m b = ltb b m
 
 module _ (w : World) (i : ℕ) (s : Local) (m : ℕ) where
-  pub retell_none : s ≡ retold w i (before 0) s
-  retell_none = λ x. record { up = s.up; received = s.received; advertised = λ b k. step b k x }
-    where
-      step : (b k : ℕ) → s.advertised b k ≡ (retold w i (before 0) s).advertised b k
-      step b k = let e = le-ltb b 0 (omega arith) in grind (arith, nat_tests)
-
   pub retell_more : retold w i (only m) (retold w i (before m) s) ≡ retold w i (before (m + 1)) s
   retell_more = λ x. record { up = s.up; received = s.received; advertised = λ b k. step b k x }
     where
       step : (b k : ℕ) → (retold w i (only m) (retold w i (before m) s)).advertised b k ≡ (retold w i (before (m + 1)) s).advertised b k
-      step b k = grind (arith, nat_tests)
-
-  pub retell_end : w.blocks ≤ m → retold w i (before m) s ≡ retold w i every s
-  retell_end h = λ x. record { up = s.up; received = s.received; advertised = λ b k. step b k x }
-    where
-      step : (b k : ℕ) → (retold w i (before m) s).advertised b k ≡ (retold w i every s).advertised b k
       step b k = grind (arith, nat_tests)
 
   pub sends_then : (k : ℕ) → sends w i (only m) (retold w i (before m) s) m k ≡ sends w i every s m k

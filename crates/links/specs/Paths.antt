@@ -1,5 +1,6 @@
 -- Paths that a network may hold. Assumes nothing.
 use Rattle.std.specs.Prelude.{◌≡◌, ℕ, ◌<◌, ◌≤◌, Bool, true, false, ◌&&◌, ◌||◌, List, [], ◌∷◌, length, ◌==◌, nat_lt}
+use Rattle.std.specs.List.{list_all}
 use Rattle.relations.specs.Between.{Between}
 use Rattle.relations.specs.declared.relation.Relation.{Relation}
 use Rattle.relations.specs.declared.relation.Relation.TheVariants.{Unrelated, Customer, Peer, Provider}
@@ -24,8 +25,7 @@ repeats (x ∷ xs) = passes x xs || repeats xs
 
 -- every network is below n
 abbrev pub below : ℕ → List ℕ → Bool
-below n [] = true
-below n (x ∷ xs) = nat_lt x n && below n xs
+below n p = list_all (λ x. nat_lt x n) p
 
 abbrev pub is_provider : Relation → Bool
 is_provider Unrelated = false

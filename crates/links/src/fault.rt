@@ -1,6 +1,4 @@
 // Why an update or a link change is refused.
-use advertisement::Audience;
-
 #[derive(Clone, Copy, Debug, PartialEq, Eq)]
 pub enum Fault {
     // a path of no network, or of more than 64
@@ -23,22 +21,4 @@ pub enum Fault {
     NotPaid,
     // a turn of a link between networks that are not related
     NoLink,
-}
-
-// What a router answers to an update.
-#[derive(Clone, Copy)]
-pub enum Heard {
-    // it was taken, and what now stands in the advertised table goes to these neighbours
-    Taken(Audience),
-    // it was refused: nothing changed, and nobody is told
-    Refused(Fault),
-}
-
-// What a router answers to a link change.
-#[derive(Clone, Copy)]
-pub enum Turned {
-    // it was taken; the tables have for each block the neighbours to whom what now stands in the advertised table goes
-    Taken,
-    // it was refused: nothing changed, and nobody is told
-    Refused(Fault),
 }

@@ -3,8 +3,6 @@ ghost use Rattle.links.specs.Laws.{StaysProper};
 
 // Whatever its neighbours send, a router holds only paths that begin with the teller, end at the home, repeat nothing and
 // are valley-free seen from it.
-pub fn held_paths_are_proper() -> u8
+pub fn held_paths_are_proper()
     ensures { StaysProper }
-{
-    0
-}
+{}

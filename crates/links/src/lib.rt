@@ -7,7 +7,7 @@ mod paths;
 mod router;
 mod tables;
 
-pub use fault::{Fault, Heard, Turned};
+pub use fault::Fault;
 pub use laws::held_paths_are_proper;
 pub use router::Router;
 pub use tables::Tables;

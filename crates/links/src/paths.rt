@@ -4,45 +4,38 @@ ghost use Rattle.relations.specs.Sound.{relation as relation_of};
 ghost use Rattle.links.specs.Paths.{allowed as allowed_by, begins as begins_by, below as below_by, ends as ends_by, is_provider, repeats as repeats_by, valley_free};
 
 use relations::{Relation, Relations};
-use selection::passes;
 
 // Whether the first network of the path is `teller`.
 pub fn begins(path: &[u8], teller: u8) -> bool
     ensures { result ≡ begins_by teller path.now }
 {
-    match path {
-        [first, ..] => *first == teller,
-        [] => false,
-    }
+    path.first() == Some(&teller)
 }
 
 // Whether the last network of the path is `home`.
 pub fn ends(path: &[u8], home: u8) -> bool
     ensures { result ≡ ends_by home path.now }
 {
-    path.len() > 0 && path[path.len() - 1] == home
+    path.last() == Some(&home)
 }
 
 // Whether every network of the path is below `n`.
 pub fn below(path: &[u8], n: u8) -> bool
     ensures { result ≡ below_by n path.now }
 {
-    for network in path {
-        if *network >= n {
-            return false;
-        }
-    }
-    true
+    path.iter().all(|network| *network < n)
 }
 
 // Whether the path names a network twice.
 pub fn repeats(path: &[u8]) -> bool
     ensures { result ≡ repeats_by path.now }
 {
-    for k in 0..path.len() {
-        if passes(&path[k + 1..], path[k]) {
+    let mut left = path;
+    while let Some((first, rest)) = left.split_first() {
+        if rest.contains(first) {
             return true;
         }
+        left = rest;
     }
     false
 }

@@ -4,6 +4,8 @@ mod methods;
 mod reading;
 mod turning;
 
+// An array, since a router has fixed memory. Relations and tables stay parameters of their own: the ones are lent to be
+// read, the others to be written, and both to many routers.
 #[derive(Clone, Copy)]
 pub struct Router {
     number: u8,

@@ -8,7 +8,8 @@ use selection::PathTable;
 mod methods;
 
 // By block: the home; by block and neighbour: what was received and advertised last; and by block who was to be told
-// when a link turned last.
+// when a link turned last. Apart, and no list of blocks, since a step reads what was received while it writes what is
+// advertised. That the homes stay is a clause of each step, since an invariant speaks of one moment.
 #[derive(Drop)]
 pub struct Tables {
     pub(crate) homes: Vec<u8>,

@@ -1,32 +1,26 @@
 // Writing a ties file.
-ghost use Rattle.std.specs.Prelude.{◌≡◌, ◌/◌, ◌%◌, ◌<◌, [], ◌∷◌, ◌++◌, IfOk, OnOk};
+ghost use Rattle.std.specs.Prelude.{◌≡◌, ◌/◌, ◌%◌, [], ◌∷◌, ◌++◌, IfOk, OnOk};
 ghost use Rattle.std.specs.List.{flat_map};
 ghost use Rattle.relations.specs.Sound.{networks as networks_of, relation as relation_of};
-ghost use Rattle.listing.specs.Encoding.{bytes_of, encoding, listed, listing, row};
+ghost use Rattle.listing.specs.Encoding.{bytes_of, encoding, listing, row};
 
-use relations::{Relation, Relations};
+use crate::account::count_ties;
+use crate::kind::listed_as;
+use relations::Relations;
 use std::alloc::{AllocError, Global};
 
 // The first byte of a ties file.
 pub const TIES: u8 = 16;
 
-// The tie of networks i and j, where it is i that stands first.
-fn push_tie(out: &mut Vec<u8>, i: u8, j: u8, relation: Relation) -> Result<(), AllocError>
-    ensures { OnOk result (out.new.items ≡ out.old.items ++ flat_map bytes_of (listed relation i j)) }
-{
-    match relation {
-        Relation::Provider => out.extend_from_slice(&[i, j, 1]),
-        Relation::Peer if i < j => out.extend_from_slice(&[i, j, 2]),
-        Relation::Unrelated | Relation::Customer | Relation::Peer => Ok(()),
-    }
-}
-
 // The ties in which network i stands first.
 fn push_row(out: &mut Vec<u8>, relations: &Relations, i: u8) -> Result<(), AllocError>
     ensures { OnOk result (out.new.items ≡ out.old.items ++ flat_map bytes_of (row (networks_of relations.now) (relation_of relations.now) i)) }
 {
+    // a `for`, since each write may fail
     for j in 0..relations.networks() {
-        push_tie(out, i, j, relations.relation(i, j))?;
+        if let Some(kind) = listed_as(relations, i, j) {
+            out.extend_from_slice(&[i, j, u8::from(kind)])?;
+        }
     }
     Ok(())
 }
@@ -35,6 +29,7 @@ fn push_row(out: &mut Vec<u8>, relations: &Relations, i: u8) -> Result<(), Alloc
 fn push_ties(out: &mut Vec<u8>, relations: &Relations) -> Result<(), AllocError>
     ensures { OnOk result (out.new.items ≡ out.old.items ++ flat_map bytes_of (listing (networks_of relations.now) (relation_of relations.now))) }
 {
+    // a `for`, since each write may fail
     for i in 0..relations.networks() {
         push_row(out, relations, i)?;
     }
@@ -42,22 +37,19 @@ fn push_ties(out: &mut Vec<u8>, relations: &Relations) -> Result<(), AllocError>
 }
 
 // The first four bytes of a file with so many networks and ties.
-fn head(networks: u8, ties: usize) -> [u8; 4]
-    requires { ties < 65536 }
+fn head(networks: u8, ties: u16) -> [u8; 4]
     ensures { result ≡ 16 ∷ networks ∷ ties / 256 ∷ ties % 256 ∷ [] }
 {
-    [TIES, networks, (ties / 256) as u8, (ties % 256) as u8]
+    let [high, low] = ties.to_be_bytes();
+    [TIES, networks, high, low]
 }
 
 // The ties file of sound relations.
 pub fn encode(relations: &Relations, heap: Global) -> Result<Vec<u8>, AllocError>
     ensures { IfOk result (λ v. v.items ≡ encoding (networks_of relations.now) (relation_of relations.now)) }
 {
-    let mut ties = Vec::new(heap);
-    push_ties(&mut ties, relations)?;
-    let count = ties.len() / 3;
     let mut out = Vec::new(heap);
-    out.extend_from_slice(&head(relations.networks(), count))?;
-    out.extend_from_slice(ties.as_slice())?;
+    out.extend_from_slice(&head(relations.networks(), count_ties(relations)))?;
+    push_ties(&mut out, relations)?;
     Ok(out)
 }

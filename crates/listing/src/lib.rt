@@ -3,6 +3,8 @@
 
 mod account;
 mod encoder;
+mod kind;
 
 pub use account::{count_ties, summary};
 pub use encoder::{TIES, encode};
+pub use kind::{Kind, UnknownKind};

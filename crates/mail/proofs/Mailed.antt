@@ -1,5 +1,5 @@
 -- What a network sends is its outbox. Assumes nothing.
-use Rattle.std.proofs.Common.{◌≡◌, ℕ, zero, suc, ◌<◌, Bool, true, false, cond, not, ◌&&◌, ltb, List, [], ◌∷◌, ◌++◌, map, length, get_or, sym, refl, ap, ◌∙◌, arith}
+use Rattle.std.proofs.Common.{Result, Ok, Err, ◌≡◌, ℕ, zero, suc, ◌<◌, Bool, true, false, cond, not, ◌&&◌, ltb, List, [], ◌∷◌, ◌++◌, map, length, get_or, sym, refl, ap, ◌∙◌, arith}
 use Rattle.std.proofs.lemmas.List.{map-append}
 use Rattle.std.proofs.lemmas.Bool.{ne_eqb}
 use Rattle.advertisement.specs.Audiences.{in_audience}
@@ -9,10 +9,7 @@ use Rattle.links.specs.Answers.{Answered, TurnAnswered}
 use Rattle.links.specs.Hearing.{after_hearing, after_turning, every, forgotten, only, outbox_on_hearing, outbox_on_turning, replaced, unless}
 use Rattle.links.specs.Local.{Local, Said, Update, due, gather, outbox, retold, sends, tells_now}
 use Rattle.links.specs.World.{World}
-use Rattle.links.specs.declared.fault.Heard.{Heard}
-use Rattle.links.specs.declared.fault.Heard.TheVariants.{Taken, Refused}
-use Rattle.links.specs.declared.fault.Turned.{Turned as TurnedAnswer}
-use Rattle.links.specs.declared.fault.Turned.TheVariants as Turned
+use Rattle.links.specs.declared.fault.Fault.{Fault}
 use Rattle.links.proofs.Receiving.{there}
 use Rattle.mail.specs.Posting.{told_all, told_by, whom}
 use Rattle.mail.specs.Posts.{Post, mail, mailing}
@@ -54,11 +51,11 @@ module _ (w : World) (i block : ℕ) (s : Local) where
       others b ne = gather_none _ w.n (λ k h. ap (λ t. cond ((t && ltb b w.blocks && ltb k w.n && s.up k) && not (same_saying (tells_now w i s b k) (s.advertised b k))) (record { from = i; to = k; what = record { block = b; says = tells_now w i s b k } } ∷ []) []) (ne_eqb b block ne))
 
 -- after an update was heard
-pub heard_mail : (w : World) (i j : ℕ) (u : Update) (s : Local) (heard : Heard) (says : ℕ → Said) → Answered w i s j u heard → ((k : ℕ) → says k ≡ (after_hearing w i j u s).advertised u.block k) → mailing i u.block (told_by heard) says w.n ≡ mail i (outbox_on_hearing w i j u s)
-heard_mail w i j u s (Taken audience) says (none, who) what =
+pub heard_mail : (w : World) (i j : ℕ) (u : Update) (s : Local) (heard : Result Audience Fault) (says : ℕ → Said) → Answered w i s j u heard → ((k : ℕ) → says k ≡ (after_hearing w i j u s).advertised u.block k) → mailing i u.block (told_by heard) says w.n ≡ mail i (outbox_on_hearing w i j u s)
+heard_mail w i j u s (Ok audience) says (none, who) what =
     mailed_only w i u.block (replaced j u s) (in_audience audience) says (there w i s j u none).0 who (λ k. what k ∙ ap (λ f. (unless f s (retold w i (only u.block) (replaced j u s))).advertised u.block k) none) ∙
     ap (λ f. mail i (unless f [] (outbox w i (only u.block) (replaced j u s)))) (sym none)
-heard_mail w i j u s (Refused fault) says some what = gather_none _ w.n (λ k h. refl) ∙ ap (λ f. mail i (unless f [] (outbox w i (only u.block) (replaced j u s)))) (sym some)
+heard_mail w i j u s (Err fault) says some what = gather_none _ w.n (λ k h. refl) ∙ ap (λ f. mail i (unless f [] (outbox w i (only u.block) (replaced j u s)))) (sym some)
 
 whom_is : (audiences : List Audience) (b k : ℕ) (r : Bool) → b < length audiences → ((d : Audience) → in_audience (get_or audiences b d) k ≡ r) → whom audiences b k ≡ r
 whom_is [] b k r l h = absurd (omega arith)
@@ -66,9 +63,9 @@ whom_is (a ∷ others) zero k r l h = h a
 whom_is (a ∷ others) (suc b) k r l h = whom_is others b k r (omega arith) h
 
 -- after a link turned
-pub turned_mail : (w : World) (i j : ℕ) (up : Bool) (s : Local) (audiences : List Audience) (turned : TurnedAnswer) (says : ℕ → ℕ → Said) → length audiences ≡ w.blocks → TurnAnswered w i s j up audiences turned → ((b k : ℕ) → says b k ≡ (after_turning w i j up s).advertised b k) → told_all turned (gather (λ b. mailing i b (whom audiences b) (says b) w.n) w.blocks) ≡ mail i (outbox_on_turning w i j up s)
-turned_mail w i j up s audiences Turned.Taken says long (none, who) what =
+pub turned_mail : (w : World) (i j : ℕ) (up : Bool) (s : Local) (audiences : List Audience) (turned : Result (Unit {0}) Fault) (says : ℕ → ℕ → Said) → length audiences ≡ w.blocks → TurnAnswered w i s j up audiences turned → ((b k : ℕ) → says b k ≡ (after_turning w i j up s).advertised b k) → told_all turned (gather (λ b. mailing i b (whom audiences b) (says b) w.n) w.blocks) ≡ mail i (outbox_on_turning w i j up s)
+turned_mail w i j up s audiences (Ok _) says long (none, who) what =
     gather_same _ _ w.blocks (λ b l. mailed_block w i every (forgotten j up s) b (whom audiences b) (says b) (λ k. whom_is audiences b k _ (omega arith) (λ d. who b k d l)) (λ k. what b k ∙ ap (λ f. (unless f s (retold w i every (forgotten j up s))).advertised b k) none)) ∙
     sym (mail_outbox w i every (forgotten j up s)) ∙
     ap (λ f. mail i (unless f [] (outbox w i every (forgotten j up s)))) (sym none)
-turned_mail w i j up s audiences (Turned.Refused fault) says long some what = ap (λ f. mail i (unless f [] (outbox w i every (forgotten j up s)))) (sym some)
+turned_mail w i j up s audiences (Err fault) says long some what = ap (λ f. mail i (unless f [] (outbox w i every (forgotten j up s)))) (sym some)

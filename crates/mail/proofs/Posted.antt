@@ -1,19 +1,21 @@
 -- What is in flight between two networks, as letters are sent, heard and lost. Assumes nothing.
-use Rattle.std.proofs.Common.{◌≡◌, ℕ, ◌+◌, ◌<◌, ◌≤◌, Bool, true, false, cond, ◌||◌, List, [], ◌∷◌, ◌++◌, length, get_or, take, drop, vec_items, vec_len, Vec, sym, refl, ap, ◌∙◌, append_assoc, append-nil, arith}
+use Rattle.std.proofs.Common.{Err, ◌≡◌, ℕ, zero, suc, not, Some, None, Option, ◌+◌, ◌<◌, Bool, true, false, cond, ◌||◌, List, [], ◌∷◌, ◌++◌, length, get_or, take, sym, refl, ap, ◌∙◌, append_assoc, append-nil, arith}
 use lib.ListN.{length-map}
-use Rattle.std.proofs.lemmas.List.{take_more, take-map, take_all, map_push, get_or-map, drop_more, drop_all}
+use Rattle.std.specs.Option.{MatchOption}
+use Rattle.std.specs.List.{filter}
+use Rattle.std.proofs.lemmas.List.{take-map, take_all, map_push, get_or-map}
 use Rattle.std.proofs.lemmas.Bool.Decides.{nat_tests}
-use Rattle.std.specs.declared.alloc.Global.{Global}
 use Rattle.advertisement.specs.Audiences.{in_audience}
 use Rattle.advertisement.specs.Updates.{block_of, said}
 use Rattle.advertisement.specs.declared.audience.Audience.{Audience}
 use Rattle.advertisement.specs.declared.update.Update.{Update as Message}
+use Rattle.links.specs.declared.fault.Fault.{Fault}
 use Rattle.links.specs.Held.{news}
 use Rattle.links.specs.Local.{Said, Update, gather}
 use Rattle.mail.specs.declared.letter.Letter.{Letter}
-use Rattle.mail.specs.Posting.{Oldest, blank, whom}
-use Rattle.mail.specs.Posts.{Post, addressed, between, cut, goes, meant, posts}
-use Rattle.relations.proofs.Gathered.{gather_more}
+use Rattle.mail.specs.Posting.{Oldest, blank, told_by, whom}
+use Rattle.mail.specs.Posts.{Post, addressed, between, cut, goes, mailing, meant, posts}
+use Rattle.relations.proofs.Gathered.{gather_more, gather_none}
 
 with_tail : {X : Type 0} (b : Bool) (x : X) (ys zs : List X) → cond b (x ∷ (ys ++ zs)) (ys ++ zs) ≡ cond b (x ∷ ys) ys ++ zs
 with_tail true x ys zs = refl
@@ -22,14 +24,6 @@ with_tail false x ys zs = refl
 pub between_append : (i j : ℕ) (ps qs : List Post) → between i j (ps ++ qs) ≡ between i j ps ++ between i j qs
 between_append i j [] qs = refl
 between_append i j (p ∷ ps) qs = ap (λ l. cond (goes i j p) (p.what ∷ l) l) (between_append i j ps qs) ∙ with_tail (goes i j p) p.what (between i j ps) (between i j qs)
-
-without_tail : {X : Type 0} (b : Bool) (x : X) (ys zs : List X) → cond b (ys ++ zs) (x ∷ (ys ++ zs)) ≡ cond b ys (x ∷ ys) ++ zs
-without_tail true x ys zs = refl
-without_tail false x ys zs = refl
-
-pub cut_append : (i j : ℕ) (ps qs : List Post) → cut i j (ps ++ qs) ≡ cut i j ps ++ cut i j qs
-cut_append i j [] qs = refl
-cut_append i j (p ∷ ps) qs = ap (λ l. cond (goes i j p || goes j i p) l (p ∷ l)) (cut_append i j ps qs) ∙ without_tail (goes i j p || goes j i p) p (cut i j ps) (cut i j qs)
 
 -- the oldest is found
 same_ends : (i j : ℕ) (p : Post) → true ≡ goes i j p → p ≡ record { from = i; to = j; what = p.what }
@@ -48,36 +42,43 @@ oldest_front i j k m ls old = record {
   here = λ p. get_or-map meant ls k blank p old.there ∙ same_ends i j (meant (get_or ls k blank)) old.here ∙ ap (λ v. record { from = i; to = j; what = news v }) (sym old.says);
 }
 
-pub none_yet : (i j k : ℕ) (ls : List Letter) (d : Letter) → k < length ls → between i j (posts (take k ls)) ≡ [] → false ≡ goes i j (meant (get_or ls k d)) → between i j (posts (take (k + 1) ls)) ≡ []
-none_yet i j k ls d l none not_here =
-    ap (λ t. between i j (posts t)) (take_more ls k d l) ∙ ap (between i j) (map_push meant (take k ls) (get_or ls k d)) ∙ between_append i j (posts (take k ls)) (meant (get_or ls k d) ∷ []) ∙
-    (λ x. none x ++ cond (sym not_here x) (news (get_or ls k d).update ∷ []) [])
+-- nothing before the first place goes there
+none_before : (i j k : ℕ) (ls : List Letter) → ((m : ℕ) → m < k → goes i j (meant (get_or ls m blank)) ≡ false) → between i j (posts (take k ls)) ≡ []
+none_before i j zero ls h = refl
+none_before i j (suc k) [] h = refl
+none_before i j (suc k) (l ∷ ls) h = (λ x. cond (h 0 (omega arith) x) ((meant l).what ∷ between i j (posts (take k ls))) (none_before i j k ls (λ m lt. h (suc m) (omega arith)) x))
 
-pub none_at_all : (i j k : ℕ) (ls : List Letter) → length ls ≤ k → between i j (posts (take k ls)) ≡ [] → between i j (posts ls) ≡ []
-none_at_all i j k ls l none = ap (λ t. between i j (posts t)) (sym (take_all k ls l)) ∙ none
+-- the first place of which the test is true, if there is one, has the oldest
+module _ (i j : ℕ) (ls : List Letter) where
+  abbrev pub there : ℕ → Bool
+  there k = goes i j (meant (get_or ls k blank))
 
--- one more letter is kept or lost
-pub cut_more : (i j k : ℕ) (ls : List Letter) (d : Letter) (left left' : List Post) → k < length ls → left' ≡ left ++ cut i j (meant (get_or ls k d) ∷ []) → left ++ cut i j (posts (drop k ls)) ≡ cut i j (posts ls) → left' ++ cut i j (posts (drop (k + 1) ls)) ≡ cut i j (posts ls)
-cut_more i j k ls d left left' l step inv =
-    ap (λ t. t ++ cut i j (posts (drop (k + 1) ls))) step ∙ append_assoc left (cut i j (meant (get_or ls k d) ∷ [])) (cut i j (posts (drop (k + 1) ls))) ∙
-    ap (λ t. left ++ t) (sym (cut_append i j (meant (get_or ls k d) ∷ []) (posts (drop (k + 1) ls))) ∙ ap (λ t. cut i j (posts t)) (sym (drop_more ls k d l))) ∙ inv
+  pub oldest_is : (o : Option ℕ) → MatchOption o ((k : ℕ) → k < length ls → there k ≡ false) (λ p. (p < length ls) × (there p ≡ true) × ((k : ℕ) → k < p → there k ≡ false)) → MatchOption o (between i j (posts ls) ≡ []) (λ k. Oldest i j k (get_or ls k blank).update ls)
+  oldest_is None none = ap (λ t. between i j (posts t)) (sym (take_all (length ls) ls (omega arith))) ∙ none_before i j (length ls) ls none
+  oldest_is (Some k) (l, here, none) = record { there = l; first = none_before i j k ls none; here = sym here; says = refl }
 
-pub cut_all : (i j k : ℕ) (ls : List Letter) (left : List Post) → length ls ≤ k → left ++ cut i j (posts (drop k ls)) ≡ cut i j (posts ls) → left ≡ cut i j (posts ls)
-cut_all i j k ls left l inv = sym (append-nil left) ∙ ap (λ t. left ++ cut i j (posts t)) (sym (drop_all k ls l)) ∙ inv
+-- one letter is kept or lost
+one_kept : (b : Bool) (l : Letter) (rest : List Letter) (ps : List Post) → posts rest ≡ ps → posts (cond (not b) (l ∷ rest) rest) ≡ cond b ps (meant l ∷ ps)
+one_kept true l rest ps e = e
+one_kept false l rest ps e = ap (λ t. meant l ∷ t) e
+
+pub cut_is : (i j : ℕ) (ls : List Letter) → posts (filter (λ l. not (goes i j (meant l) || goes j i (meant l))) ls) ≡ cut i j (posts ls)
+cut_is i j [] = refl
+cut_is i j (l ∷ ls) = one_kept (goes i j (meant l) || goes j i (meant l)) l _ _ (cut_is i j ls)
 
 pub posted_more : (f : ℕ → List Post) (entry : List Post) (k : ℕ) (now next : List Post) → now ≡ entry ++ gather f k → next ≡ now ++ f k → next ≡ entry ++ gather f (k + 1)
 posted_more f entry k now next inv step = step ∙ ap (λ l. l ++ f k) inv ∙ append_assoc entry (gather f k) (f k) ∙ ap (λ l. entry ++ l) (sym (gather_more f k))
-
--- how many letters a vector has
-pub as_many : (v : Vec Letter Global) → length (posts (vec_items v)) ≡ vec_len v
-as_many v = length-map (vec_items v) meant ∙ sym v.ok.0
-
-pub kept : (i j : ℕ) (l : Letter) (before after : List Letter) → after ≡ before ++ l ∷ [] → false ≡ (goes i j (meant l) || goes j i (meant l)) → posts after ≡ posts before ++ cut i j (meant l ∷ [])
-kept i j l before after e off = ap posts e ∙ map_push meant before l ∙ ap (λ t. posts before ++ t) (λ x. cond (off x) [] (meant l ∷ []))
 
 -- one update is sent
 pub sent_one : (i k block : ℕ) (whom : ℕ → Bool) (says : ℕ → Said) (u : Message) (before after : List Letter) → after ≡ before ++ record { from = i; to = k; update = u } ∷ [] → block_of u ≡ block → said u ≡ says k → true ≡ whom k → posts after ≡ posts before ++ addressed i block whom says k
 sent_one i k block whom says u before after e here what told = ap posts e ∙ map_push meant before (record { from = i; to = k; update = u }) ∙ ap (λ t. posts before ++ t) (λ x. cond (told x) (record { from = i; to = k; what = record { block = here x; says = what x } } ∷ []) [])
 
+pub none_sent : (i k block : ℕ) (whom : ℕ → Bool) (says : ℕ → Said) (ps : List Post) → false ≡ whom k → ps ≡ ps ++ addressed i block whom says k
+none_sent i k block whom says ps e = sym (append-nil ps) ∙ ap (λ t. ps ++ t) (λ x. cond (e x) (record { from = i; to = k; what = record { block = block; says = says k } } ∷ []) [])
+
 pub by_audience : (audiences : List Audience) (b : ℕ) (a : Audience) → b < length audiences → a ≡ get_or audiences b a → whom audiences b ≡ in_audience a
 by_audience audiences b a l e = get_or-map in_audience audiences b a (λ k. false) l ∙ ap in_audience (sym e)
+
+-- nothing is sent after a refusal
+pub nobody_told : (i block n : ℕ) (fault : Fault) (says : ℕ → Said) (ps : List Post) → ps ≡ ps ++ mailing i block (told_by (Err fault)) says n
+nobody_told i block n fault says ps = sym (append-nil ps) ∙ ap (λ t. ps ++ t) (sym (gather_none _ n (λ k h. refl)))

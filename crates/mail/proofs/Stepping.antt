@@ -1,9 +1,10 @@
 -- A network's step on tables of its own is the local step. Assumes nothing.
-use Rattle.std.proofs.Common.{◌≡◌, ℕ, Bool, List, ◌++◌, length, get_or, vec_items, vec_len, sym, ap, ◌∙◌, subst}
+use Rattle.std.proofs.Common.{Result, ◌≡◌, ℕ, Bool, List, ◌++◌, length, get_or, vec_items, vec_len, sym, ap, ◌∙◌, subst}
 use Rattle.relations.specs.Sound.{networks, relation}
 use Rattle.relations.specs.declared.sound.Relations.{Relations}
 use Rattle.selection.specs.Paths.{row}
 use Rattle.advertisement.specs.Updates.{block_of}
+use Rattle.advertisement.specs.declared.audience.Audience.{Audience}
 use Rattle.advertisement.specs.declared.update.Update.{Update as Message}
 use Rattle.links.specs.Answers.{Answered, TurnAnswered}
 use Rattle.links.specs.Held.{held, links_up, news, world}
@@ -11,8 +12,7 @@ use Rattle.links.specs.Hearing.{after_hearing, after_turning, outbox_on_hearing,
 use Rattle.links.specs.Local.{Local, gather}
 use Rattle.links.specs.Made.{Same}
 use Rattle.links.specs.World.{World}
-use Rattle.links.specs.declared.fault.Heard.{Heard}
-use Rattle.links.specs.declared.fault.Turned.{Turned}
+use Rattle.links.specs.declared.fault.Fault.{Fault}
 use Rattle.links.specs.declared.router.Router.{Router}
 use Rattle.links.specs.declared.tables.Tables.{Tables}
 use Rattle.mail.specs.Posting.{told_all, told_by, whom}
@@ -35,7 +35,7 @@ module _ (r : Relations) (x : Network) (own then : Tables) (same : Same x.tables
   homes_kept : vec_items then.homes ≡ vec_items x.tables.homes
   homes_kept = ap vec_items kept ∙ same.homes
 
-  module _ (from : ℕ) (m : Message) (heard : Heard) (holds : held x.router then ≡ after_hearing (world r own) (number_of x) from (news m) (held x.router own)) (answer : Answered (world r own) (number_of x) (held x.router own) from (news m) heard) where
+  module _ (from : ℕ) (m : Message) (heard : Result Audience Fault) (holds : held x.router then ≡ after_hearing (world r own) (number_of x) from (news m) (held x.router own)) (answer : Answered (world r own) (number_of x) (held x.router own) from (news m) heard) where
     here : held x.router then ≡ after_hearing (ground_of r x) (number_of x) from (news m) (local x)
     here = holds ∙ (λ y. after_hearing (place y) (number_of x) from (news m) (same_held x.router x.tables own same y))
 
@@ -53,7 +53,7 @@ module _ (r : Relations) (x : Network) (own then : Tables) (same : Same x.tables
       letters = sent ∙ ap (λ l. posts before ++ l) (heard_mailing sender block n a b c);
     }
 
-  module _ (other : ℕ) (up : Bool) (router : Router) (turned : Turned) (holds : held router then ≡ after_turning (world r own) (number_of x) other up (held x.router own)) (answer : TurnAnswered (world r own) (number_of x) (held x.router own) other up (vec_items then.audiences) turned) where
+  module _ (other : ℕ) (up : Bool) (router : Router) (turned : Result (Unit {0}) Fault) (holds : held router then ≡ after_turning (world r own) (number_of x) other up (held x.router own)) (answer : TurnAnswered (world r own) (number_of x) (held x.router own) other up (vec_items then.audiences) turned) where
     turned_here : held router then ≡ after_turning (ground_of r x) (number_of x) other up (local x)
     turned_here = holds ∙ (λ y. after_turning (place y) (number_of x) other up (same_held x.router x.tables own same y))
 

@@ -1,13 +1,10 @@
 -- The oldest of what is in flight, and room for what is sent. Assumes nothing.
-use Rattle.std.specs.Prelude.{◌≡◌, ℕ, ◌<◌, Bool, true, false, List, [], map, length, get_or, take, slice_index_or}
+use Rattle.std.specs.Prelude.{◌≡◌, ℕ, ◌<◌, Bool, true, false, List, [], map, length, get_or, take, Result, Ok, Err, slice_index_or}
 use Rattle.advertisement.specs.Audiences.{in_audience}
 use Rattle.advertisement.specs.declared.audience.Audience.{Audience}
 use Rattle.advertisement.specs.declared.update.Update.{Update as Message}
 use Rattle.advertisement.specs.declared.update.Update.TheVariants.{Announce}
-use Rattle.links.specs.declared.fault.Heard.{Heard}
-use Rattle.links.specs.declared.fault.Heard.TheVariants.{Taken, Refused}
-use Rattle.links.specs.declared.fault.Turned.{Turned as TurnedAnswer}
-use Rattle.links.specs.declared.fault.Turned.TheVariants as Turned
+use Rattle.links.specs.declared.fault.Fault.{Fault}
 use Rattle.mail.specs.Posts.{Post, between, goes, meant, posts}
 use Rattle.mail.specs.declared.letter.Letter.{Letter}
 
@@ -27,11 +24,11 @@ abbrev pub whom : List Audience → ℕ → ℕ → Bool
 whom audiences b = slice_index_or (map in_audience audiences) b (λ k. false)
 
 -- who is to be told after an update was heard
-abbrev pub told_by : Heard → ℕ → Bool
-told_by (Taken audience) k = in_audience audience k
-told_by (Refused fault) k = false
+abbrev pub told_by : Result Audience Fault → ℕ → Bool
+told_by (Ok audience) k = in_audience audience k
+told_by (Err fault) k = false
 
 -- what is sent after a link turned; nothing where that was refused
-abbrev pub told_all : TurnedAnswer → List Post → List Post
-told_all Turned.Taken ps = ps
-told_all (Turned.Refused fault) ps = []
+abbrev pub told_all : Result (Unit {0}) Fault → List Post → List Post
+told_all (Ok _) ps = ps
+told_all (Err fault) ps = []

@@ -1,40 +1,29 @@
 // Letters: which is the oldest, which stay, and which are sent.
-ghost use Rattle.std.specs.Prelude.{◌≡◌, ◌+◌, ◌<◌, ◌||◌, [], ◌∷◌, ◌++◌, length, take, drop, IfOk, vec_len, MatchOption, OnOk};
+ghost use Rattle.std.specs.Prelude.{◌≡◌, ◌+◌, [], ◌++◌, take, drop, IfOk, vec_len, MatchOption, OnOk, slice_index_or};
 ghost use Rattle.selection.specs.Paths.{row};
 ghost use Rattle.advertisement.specs.Audiences.{in_audience};
 ghost use Rattle.links.specs.Local.{gather};
-ghost use Rattle.mail.specs.Posting.{Oldest, whom};
-ghost use Rattle.mail.specs.Posts.{addressed, between, cut, goes as goes_by, mailing, meant, posts};
+ghost use Rattle.mail.specs.Posting.{Oldest, blank, told_all, told_by, whom};
+ghost use Rattle.mail.specs.Posts.{between, cut, mailing, posts};
 
 use crate::letter::Letter;
 use advertisement::{Audience, Update};
-use links::Tables;
+use links::{Fault, Tables};
 use std::alloc::{AllocError, Global};
 
-// Whether the letter goes from one network to another.
-fn goes(letter: Letter, from: u8, to: u8) -> bool
-    ensures { result ≡ goes_by from to (meant letter) }
+// The place of the first letter from one network to another.
+fn first_place(letters: &[Letter], from: u8, to: u8) -> Option<usize>
+    ensures { MatchOption result (between from to (posts letters.now) ≡ []) (λ place. Oldest from to place (slice_index_or letters.now place blank).update letters.now) }
 {
-    letter.from == from && letter.to == to
-}
-
-// Whether the letter goes over the link of two networks, either way.
-fn crosses(letter: Letter, one: u8, other: u8) -> bool
-    ensures { result ≡ (goes_by one other (meant letter) || goes_by other one (meant letter)) }
-{
-    goes(letter, one, other) || goes(letter, other, one)
+    letters.iter().position(|letter| letter.goes(from, to))
 }
 
 // The place of the oldest letter from one network to another, and what it says.
 pub fn oldest(letters: &[Letter], from: u8, to: u8) -> Option<(usize, Update)>
     ensures { MatchOption result (between from to (posts letters.now) ≡ []) (λ found. Oldest from to found.0 found.1 letters.now) }
 {
-    for place in 0..letters.len() {
-        if goes(letters[place], from, to) {
-            return Some((place, letters[place].update));
-        }
-    }
-    None
+    let place = first_place(letters, from, to)?;
+    Some((place, letters[place].update))
 }
 
 // All letters but the one at a place, if there is one.
@@ -42,22 +31,10 @@ pub fn without(letters: &[Letter], place: usize, heap: Global) -> Result<Vec<Let
     ensures { IfOk result (λ left. left.items ≡ take place letters.now ++ drop (place + 1) letters.now) }
 {
     let mut left = letters.to_vec(heap)?;
-    if place >= left.len() {
-        return Ok(left);
+    if place < left.len() {
+        left.remove(place);
     }
-    left.remove(place);
     Ok(left)
-}
-
-// Keeps a letter, unless it goes over the link of two networks.
-fn keep(left: &mut Vec<Letter>, letter: Letter, one: u8, other: u8) -> Result<(), AllocError>
-    ensures { OnOk result (posts left.new.items ≡ posts left.old.items ++ cut one other (meant letter ∷ [])) }
-{
-    if crosses(letter, one, other) {
-        return Ok(());
-    }
-    left.push(letter)?;
-    Ok(())
 }
 
 // The letters that do not go over the link of two networks.
@@ -69,80 +46,82 @@ pub fn cut_link(
 ) -> Result<Vec<Letter>, AllocError>
     ensures { IfOk result (λ left. posts left.items ≡ cut one other (posts letters.now)) }
 {
-    let mut left = Vec::new(heap);
-    for letter in letters {
-        keep(&mut left, *letter, one, other)?;
-    }
-    Ok(left)
+    letters
+        .iter()
+        .copied()
+        .filter(|letter| !letter.crosses(one, other))
+        .collect(heap)
 }
 
-// Sends what a network tells of a block to another, if that is to be told.
-fn post_to(
-    letters: &mut Vec<Letter>,
-    from: u8,
-    to: u8,
-    tables: &Tables,
-    block: u16,
-    audience: Audience,
-) -> Result<(), AllocError>
-    ensures { OnOk result (posts letters.new.items ≡ posts letters.old.items ++ addressed from block (in_audience audience) (row tables.now.advertised block) to) }
-{
-    if !audience.contains(to) {
-        return Ok(());
-    }
-    let update = tables.update(block, to);
-    letters.push(Letter { from, to, update })?;
-    Ok(())
+// A network that sends what stands in its advertised table to those of the networks that are to be told.
+#[derive(Clone, Copy)]
+pub struct Sender<'a> {
+    pub number: u8,
+    pub networks: u8,
+    pub tables: &'a Tables,
 }
 
-// Sends what a network tells of a block to those who are to be told, in the order of their numbers.
-pub fn post(
-    letters: &mut Vec<Letter>,
-    from: u8,
-    networks: u8,
-    tables: &Tables,
-    block: u16,
-    audience: Audience,
-) -> Result<(), AllocError>
-    ensures { OnOk result (posts letters.new.items ≡ posts letters.old.items ++ mailing from block (in_audience audience) (row tables.now.advertised block) networks) }
-{
-    for to in 0..networks {
-        post_to(letters, from, to, tables, block, audience)?;
+impl Sender<'_> {
+    // Sends what it tells of a block to those who are to be told, in the order of their numbers.
+    fn post(
+        &self,
+        letters: &mut Vec<Letter>,
+        block: u16,
+        audience: Audience,
+    ) -> Result<(), AllocError>
+        ensures { OnOk result (posts letters.new.items ≡ posts letters.old.items ++ mailing self.now.number block (in_audience audience) (row self.now.tables.now.advertised block) self.now.networks) }
+    {
+        for to in 0..self.networks {
+            if audience.contains(to) {
+                let update = self.tables.update(block, to);
+                letters.push(Letter {
+                    from: self.number,
+                    to,
+                    update,
+                })?;
+            }
+        }
+        Ok(())
     }
-    Ok(())
-}
 
-// Sends what a network whose link turned tells of a block.
-fn post_block(
-    letters: &mut Vec<Letter>,
-    from: u8,
-    networks: u8,
-    tables: &Tables,
-    block: u16,
-) -> Result<(), AllocError>
-    requires { block < vec_len tables.now.homes }
-    ensures { OnOk result (posts letters.new.items ≡ posts letters.old.items ++ mailing from block (whom tables.now.audiences.items block) (row tables.now.advertised block) networks) }
-{
-    let Some(audience) = tables.audience(block) else {
-        return Ok(());
-    };
-    post(letters, from, networks, tables, block, audience)?;
-    Ok(())
-}
-
-// Sends what a network whose link turned tells of every block, block by block.
-pub fn post_all(
-    letters: &mut Vec<Letter>,
-    from: u8,
-    networks: u8,
-    tables: &Tables,
-    blocks: u16,
-) -> Result<(), AllocError>
-    requires { blocks ≡ vec_len tables.now.homes }
-    ensures { OnOk result (posts letters.new.items ≡ posts letters.old.items ++ gather (λ b. mailing from b (whom tables.now.audiences.items b) (row tables.now.advertised b) networks) blocks) }
-{
-    for block in 0..blocks {
-        post_block(letters, from, networks, tables, block)?;
+    // Sends what it tells of a block after it heard an update; nothing after a refusal.
+    pub fn post_heard(
+        &self,
+        letters: &mut Vec<Letter>,
+        block: u16,
+        heard: Result<Audience, Fault>,
+    ) -> Result<(), AllocError>
+        ensures { OnOk result (posts letters.new.items ≡ posts letters.old.items ++ mailing self.now.number block (told_by heard) (row self.now.tables.now.advertised block) self.now.networks) }
+    {
+        match heard {
+            Ok(audience) => self.post(letters, block, audience),
+            Err(_) => Ok(()),
+        }
     }
-    Ok(())
+
+    // Sends what it tells of every block, block by block, after a link of its own turned; nothing after a refusal.
+    pub fn post_turned(
+        &self,
+        letters: &mut Vec<Letter>,
+        turned: Result<(), Fault>,
+    ) -> Result<(), AllocError>
+        ensures { OnOk result (posts letters.new.items ≡ posts letters.old.items ++ told_all turned (gather (λ b. mailing self.now.number b (whom self.now.tables.now.audiences.items b) (row self.now.tables.now.advertised b) self.now.networks) (vec_len self.now.tables.now.homes))) }
+    {
+        match turned {
+            Ok(()) => self.post_all(letters),
+            Err(_) => Ok(()),
+        }
+    }
+
+    // Sends what it tells of every block to those who were to be told when a link turned last, block by block.
+    fn post_all(&self, letters: &mut Vec<Letter>) -> Result<(), AllocError>
+        ensures { OnOk result (posts letters.new.items ≡ posts letters.old.items ++ gather (λ b. mailing self.now.number b (whom self.now.tables.now.audiences.items b) (row self.now.tables.now.advertised b) self.now.networks) (vec_len self.now.tables.now.homes)) }
+    {
+        for block in 0..self.tables.blocks() {
+            if let Some(audience) = self.tables.audience(block) {
+                self.post(letters, block, audience)?;
+            }
+        }
+        Ok(())
+    }
 }

@@ -1,12 +1,14 @@
 // A refusal in words.
-ghost use Rattle.std.specs.Prelude.{◌≡◌, ◌++◌, IfOk, string_bytes, OnOk};
-ghost use Rattle.refusals.specs.Words.{cause_words, fault_words, number as number_of, place_words, words};
+ghost use Rattle.std.specs.Prelude.{◌≡◌, Some};
+ghost use Rattle.refusals.specs.Words.{cause_words, number as number_of, place_words, words};
 
 use crate::refusal::{Cause, Place, Refusal};
-use std::alloc::{AllocError, Global};
+use std::error::Error;
+use std::fmt;
+use text::Row;
 
 impl Cause {
-    // The number of the fault.
+    // The number of the fault. No trait for the causes of several crates, since each is asked where its type is known.
     pub fn number(self) -> u8
         ensures { result ≡ number_of self }
     {
@@ -17,11 +19,13 @@ impl Cause {
             Cause::TooMany => 11,
         }
     }
+}
 
-    fn text(self) -> &'static str
-        ensures { result.now ≡ cause_words self }
-    {
-        match self {
+impl fmt::Display for Cause {
+    ghost output = { λ cause. Some (cause_words cause) };
+
+    fn fmt<W: fmt::Write>(&self, f: &mut fmt::Formatter<W>) -> fmt::Result {
+        f.write_str(match self {
             Cause::UnknownKind => "unknown kind",
             Cause::Cut => "bad length: cut short",
             Cause::Surplus => "bad length: bytes past the end",
@@ -32,45 +36,36 @@ impl Cause {
             Cause::PeersTurned => "peers with the higher number first",
             Cause::Itself => "a network tied to itself",
             Cause::TooMany => "more networks than can be rehearsed",
-        }
+        })
     }
 }
 
-fn push_place(out: &mut String, place: Place) -> Result<(), AllocError>
-    ensures { OnOk result (string_bytes out.new ≡ string_bytes out.old ++ place_words place) }
-{
-    match place {
-        Place::Head => write!(out, "head"),
-        Place::Tie(k) => write!(out, "tie {k}"),
-        Place::End => write!(out, "end"),
-    }
-}
+impl fmt::Display for Place {
+    ghost output = { λ place. Some (place_words place) };
 
-fn push_fault(out: &mut String, place: Place, cause: Cause) -> Result<(), AllocError>
-    ensures { OnOk result (string_bytes out.new ≡ string_bytes out.old ++ fault_words place cause) }
-{
-    let number = cause.number();
-    let text = cause.text();
-    write!(out, "fault {number} at ")?;
-    push_place(out, place)?;
-    write!(out, ": {text}")?;
-    Ok(())
-}
-
-impl Refusal {
-    // The line that tells of the refusal. Only want of memory is an error.
-    pub fn describe(&self, heap: Global) -> Result<String, AllocError>
-        ensures { IfOk result (λ s. string_bytes s ≡ words self.now) }
-    {
-        let mut out = String::new(heap);
+    fn fmt<W: fmt::Write>(&self, f: &mut fmt::Formatter<W>) -> fmt::Result {
         match self {
-            Refusal::Fault { place, cause } => push_fault(&mut out, *place, *cause)?,
-            Refusal::Cycle(ring) => {
-                write!(out, "fault 5 at end: a ring of customers: ")?;
-                text::push_numbers(&mut out, ring.as_slice())?;
-            }
-            Refusal::Memory => write!(out, "out of memory")?,
+            Place::Head => f.write_str("head"),
+            Place::Tie(k) => write!(f, "tie {k}"),
+            Place::End => f.write_str("end"),
         }
-        Ok(out)
     }
 }
+
+impl fmt::Display for Refusal {
+    ghost output = { λ refusal. Some (words refusal) };
+
+    fn fmt<W: fmt::Write>(&self, f: &mut fmt::Formatter<W>) -> fmt::Result {
+        match self {
+            Refusal::Fault { place, cause } => {
+                write!(f, "fault {} at {place}: {cause}", cause.number())
+            }
+            Refusal::Cycle(ring) => {
+                write!(f, "fault 5 at end: a ring of customers: {}", Row(ring))
+            }
+            Refusal::Memory => f.write_str("out of memory"),
+        }
+    }
+}
+
+impl Error for Refusal {}

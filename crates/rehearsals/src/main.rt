@@ -1,40 +1,27 @@
 // rehearsals (TIES SCRIPT HOME)...: plays several scripts, and says of each what it shows and why it is not played on.
 #![tactic(auto)]
 
-use stage::{Failure, load, perform, set_up, unmoved, words};
+use stage::{Failure, perform, unmoved, words};
 use std::io;
 use std::process::ExitCode;
 
 const USAGE: &str = "usage: rehearsals (TIES SCRIPT HOME)...";
 
-// The ties first, then the home, then the script.
-fn rehearse(rt: &HostRuntime, ties: &str, script: &str, homes: &[String]) -> Result<(), Failure> {
-    let ties = load(rt, ties)?;
-    let mut simulation = set_up(ties.as_slice(), homes, rt.alloc())?;
-    let script = load(rt, script)?;
-    perform(rt, &mut simulation, script.as_slice())
-}
-
 // Plays one script, of three words.
 fn tell(rt: &HostRuntime, words: &[String]) -> io::Result<()> {
-    if words.len() != 3 {
+    let [ties, script, home] = words else {
         return rt.println(USAGE);
-    }
-    let (ties, script, home) = (words[0].as_str(), words[1].as_str(), words[2].as_str());
+    };
     println!(rt; "{ties} {script} {home}")?;
-    match rehearse(rt, ties, script, &words[2..]) {
+    match perform(rt, ties.as_str(), script.as_str(), &words[2..]) {
         Ok(()) => Ok(()),
-        Err(Failure::Told(line)) => println!(rt; "{line}"),
-        Err(Failure::Memory) => rt.println("out of memory"),
+        Err(failure) => println!(rt; "{failure}"),
     }
 }
 
 fn run(rt: &HostRuntime) -> Result<(), Failure> {
-    let words = words(rt)?;
-    for run in words.as_slice().chunks(3) {
-        if let Err(e) = tell(rt, run) {
-            return Err(unmoved(rt.alloc(), "standard output", e));
-        }
+    for run in words(rt)?.as_slice().chunks(3) {
+        tell(rt, run).map_err(|e| unmoved(rt.alloc(), "standard output", e))?;
     }
     Ok(())
 }

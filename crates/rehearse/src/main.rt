@@ -1,7 +1,7 @@
 // rehearse TIES SCRIPT HOME...: plays all networks in memory by a script.
 #![tactic(auto)]
 
-use stage::{Failure, load, perform, set_up, told, unmoved, words};
+use stage::{Failure, perform, unmoved, words};
 use std::process::ExitCode;
 
 const USAGE: &str = "usage: rehearse TIES SCRIPT HOME...   (--help says more)";
@@ -30,45 +30,25 @@ A fault has a number and a place: ties at head, tie K or end; home K; line K.
   11  more than 16 networks, 64 blocks or 4096 updates in flight
 ";
 
-fn help(rt: &HostRuntime) -> Result<(), Failure> {
-    match rt.print(HELP) {
-        Ok(()) => Ok(()),
-        Err(e) => Err(unmoved(rt.alloc(), "standard output", e)),
-    }
-}
-
-// The ties first, then the homes, then the script.
-fn rehearse(rt: &HostRuntime, ties: &str, script: &str, homes: &[String]) -> Result<(), Failure> {
-    if ties == "-" && script == "-" {
-        return Err(told(rt.alloc(), USAGE));
-    }
-    let ties = load(rt, ties)?;
-    let mut simulation = set_up(ties.as_slice(), homes, rt.alloc())?;
-    let script = load(rt, script)?;
-    perform(rt, &mut simulation, script.as_slice())
-}
-
 fn run(rt: &HostRuntime) -> Result<(), Failure> {
     let words = words(rt)?;
-    let words = words.as_slice();
-    if words.len() == 1 && words[0].as_str() == "--help" {
-        return help(rt);
+    match words.as_slice() {
+        [word] if word.as_str() == "--help" => rt
+            .print(HELP)
+            .map_err(|e| unmoved(rt.alloc(), "standard output", e)),
+        [ties, script, homes @ ..]
+            if !homes.is_empty() && (ties.as_str() != "-" || script.as_str() != "-") => {
+            perform(rt, ties.as_str(), script.as_str(), homes)
+        }
+        _ => Err(Failure::Usage(USAGE)),
     }
-    if words.len() < 3 {
-        return Err(told(rt.alloc(), USAGE));
-    }
-    rehearse(rt, words[0].as_str(), words[1].as_str(), &words[2..])
 }
 
 fn main(rt: HostRuntime) -> ExitCode {
     match run(&rt) {
         Ok(()) => ExitCode::SUCCESS,
-        Err(Failure::Told(line)) => {
-            let _ = eprintln!(rt; "rehearse: {line}");
-            ExitCode::FAILURE
-        }
-        Err(Failure::Memory) => {
-            let _ = eprintln!(rt; "rehearse: out of memory");
+        Err(failure) => {
+            let _ = eprintln!(rt; "rehearse: {failure}");
             ExitCode::FAILURE
         }
     }

@@ -1,9 +1,10 @@
 -- Lists one after the other, f 0 ++ .. ++ f (k - 1). Assumes nothing.
-use Rattle.std.proofs.Common.{◌≡◌, ℕ, zero, suc, ◌+◌, ◌*◌, ◌<◌, ◌≤◌, List, [], ◌∷◌, ◌++◌, length, get_or, sym, refl, ap, ◌∙◌, subst, ⊎_elim, append_assoc, append-nil, mul-suc, add-one, arith, length-append}
+use Rattle.std.proofs.Common.{◌≡◌, ℕ, zero, suc, ◌+◌, ◌*◌, ◌<◌, ◌≤◌, List, [], ◌++◌, length, get_or, sym, refl, ap, ◌∙◌, subst, ⊎_elim, append_assoc, append-nil, mul-suc, add-one, arith, length-append}
 use Rattle.std.specs.List.{flat_map, AllByRecursion}
 use Rattle.std.proofs.lemmas.List.{get_or_append_left, get_or-append-add}
 use Rattle.std.proofs.ByRecursion.{All-append}
 use Rattle.std.proofs.lemmas.Bool.{cases_lt, cases_eq}
+use Rattle.std.proofs.lemmas.Grind.{flat_map-append}
 use Rattle.relations.specs.Lists.{gather}
 
 module _ {X : Type 0} where
@@ -59,18 +60,11 @@ module _ {X : Type 0} where
       (length (gather f m) + q, omega (arith, length-append (gather f m) (f m)), get_or-append-add (gather f m) (f m) q d ∙ ap (λ z. get_or (f z) q d) (sym e)))
       (cases_lt i m)
 
-joined_append : {X A : Type 0} (f : X → List A) (xs ys : List X) → flat_map f (xs ++ ys) ≡ flat_map f xs ++ flat_map f ys
-joined_append f [] ys = refl
-joined_append f (x ∷ xs) ys = ap (λ l. f x ++ l) (joined_append f xs ys) ∙ sym (append_assoc (f x) (flat_map f xs) (flat_map f ys))
-
 -- a turn that appends what one list says
 pub gather_joined : {X A : Type 0} (f : X → List A) (g : ℕ → List X) (k : ℕ) (start now next : List A) → now ≡ start ++ flat_map f (gather g k) → next ≡ now ++ flat_map f (g k) → next ≡ start ++ flat_map f (gather g (k + 1))
 gather_joined f g k start now next h e =
-    e ∙ ap (λ l. l ++ flat_map f (g k)) h ∙ append_assoc start (flat_map f (gather g k)) (flat_map f (g k)) ∙ ap (λ l. start ++ l) (sym (joined_append f (gather g k) (g k)) ∙ ap (λ m. flat_map f (gather g m)) (sym (add-one k)))
+    e ∙ ap (λ l. l ++ flat_map f (g k)) h ∙ append_assoc start (flat_map f (gather g k)) (flat_map f (g k)) ∙ ap (λ l. start ++ l) (sym (flat_map-append f (gather g k) (g k)) ∙ ap (λ m. flat_map f (gather g m)) (sym (add-one k)))
 
 pub length_gather : {X : Type 0} (f : ℕ → List X) (c m : ℕ) → ((i : ℕ) → length (f i) ≤ c) → length (gather f m) ≤ c * m
 length_gather f c zero h = omega arith
 length_gather f c (suc m) h = omega (arith, mul-suc c m, length-append (gather f m) (f m), length_gather f c m h, h m)
-
-pub length_gather_more : {X : Type 0} (f : ℕ → List X) (k a b : ℕ) → a ≡ length (gather f k) → b ≡ length (f k) → a + b ≡ length (gather f (k + 1))
-length_gather_more f k a b e g = (λ i. e i + g i) ∙ sym (length-append (gather f k) (f k)) ∙ ap (λ m. length (gather f m)) (sym (add-one k))

@@ -1,10 +1,10 @@
 -- What a write to the table of relations leaves. Assumes nothing.
-use Rattle.std.proofs.Common.{◌≡◌, ℕ, ◌+◌, ◌*◌, ◌<◌, ◌≤◌, cond, ◌&&◌, eqb, ltb, List, length, get_or, set, replicate, sym, refl, ap, ◌∙◌, ⊎_elim, arith, length-set}
+use Rattle.std.proofs.Common.{◌≡◌, ℕ, ◌<◌, ◌≤◌, cond, ◌&&◌, eqb, List, [], length, get_or, set, replicate, sym, refl, ap, ◌∙◌, ⊎_elim, arith, length-set}
 use lib.ListN.{length-replicate}
-use Rattle.std.proofs.lemmas.List.{get_or-set_same, get_or-set_other, get_or-replicate, get_or_past}
-use Rattle.std.proofs.lemmas.Bool.{cases_eq, cases_lt, lt-ltb, le-ltb, cond-true, cond-false, eq-eqb, ne_eqb, cond_both}
+use Rattle.std.proofs.lemmas.List.{get_or-set_same, get_or-set_other, get_or-replicate, get_or_past, get_or_default}
+use Rattle.std.proofs.lemmas.Bool.{cases_eq, cases_lt, cond-true, cond-false, eq-eqb, ne_eqb}
 use Rattle.std.proofs.lemmas.Bool.Decides.{nat_tests}
-use Rattle.relations.specs.Between.{Between, Mutual, Apart, Within, between, opposite, with_pair}
+use Rattle.relations.specs.Between.{Between, Mutual, Apart, Wide, Within, between, opposite, with_pair}
 use Rattle.relations.specs.declared.relation.Relation.{Relation}
 use Rattle.relations.specs.declared.relation.Relation.TheVariants.{Unrelated, Customer, Peer, Provider}
 
@@ -15,15 +15,15 @@ get_d_set l p q v d h =
     (λ n. get_or-set_other l p q v d n ∙ sym (cond-false (eqb q p) v (get_or l q d) (ne_eqb q p n)))
     (cases_eq q p)
 
--- two places of the table are one only at one pair
-pub same_place : (i j a b : ℕ) → j < 64 → b < 64 → eqb (i * 64 + j) (a * 64 + b) ≡ (eqb i a && eqb j b)
-same_place i j a b h k = grind (arith, nat_tests)
-
 pub get_or_same : {X : Type 0} (k i : ℕ) (x : X) → get_or (replicate k x) i x ≡ x
 get_or_same k i x = ⊎_elim (λ h. get_or-replicate k i x x h) (λ h. get_or_past (replicate k x) i x (simp length-replicate h)) (cases_lt i k)
 
-pub between_none : (k i j : ℕ) → between (replicate k Unrelated) i j ≡ Unrelated
-between_none k i j = cond_both (ltb j 64) _ _ (λ x. x ≡ Unrelated) (λ _. get_or_same k (i * 64 + j) Unrelated) (λ _. refl)
+pub between_none : (k m i j : ℕ) → between (replicate k (replicate m Unrelated)) i j ≡ Unrelated
+between_none k m i j =
+    ⊎_elim
+    (λ h. ap (λ row. get_or row j Unrelated) (get_or-replicate k i (replicate m Unrelated) [] h) ∙ get_or_same m j Unrelated)
+    (λ h. ap (λ row. get_or row j Unrelated) (get_or_past (replicate k (replicate m Unrelated)) i [] (simp length-replicate h)))
+    (cases_lt i k)
 
 opposite_opposite : (x : Relation) → opposite (opposite x) ≡ x
 opposite_opposite Unrelated = refl
@@ -31,19 +31,13 @@ opposite_opposite Customer = refl
 opposite_opposite Peer = refl
 opposite_opposite Provider = refl
 
-module _ (rows : List Relation) (a b : ℕ) (x : Relation) (long : length rows ≡ 4096) (ha : a < 64) (hb : b < 64) where
-  at_both : (i j : ℕ) → j < 64 → get_or (set (set rows (a * 64 + b) x) (b * 64 + a) (opposite x)) (i * 64 + j) Unrelated ≡ cond (eqb i b && eqb j a) (opposite x) (cond (eqb i a && eqb j b) x (get_or rows (i * 64 + j) Unrelated))
-  at_both i j h =
-      get_d_set (set rows (a * 64 + b) x) (b * 64 + a) (i * 64 + j) (opposite x) Unrelated (simp length-set (omega arith)) ∙
-      (λ k. cond (same_place i j b a h ha k) (opposite x) (get_d_set rows (a * 64 + b) (i * 64 + j) x Unrelated (omega arith) k)) ∙
-      ap (λ t. cond (eqb i b && eqb j a) (opposite x) (cond t x (get_or rows (i * 64 + j) Unrelated))) (same_place i j a b h hb)
-
-  pub between_set : (a ≡ b → ⊥) → (i j : ℕ) → between (set (set rows (a * 64 + b) x) (b * 64 + a) (opposite x)) i j ≡ with_pair (between rows) a b x i j
-  between_set ne i j =
-      ⊎_elim
-      (λ h. let e = at_both i j h in let t = lt-ltb j 64 h in grind (arith, nat_tests, e))
-      (λ h. let t = le-ltb j 64 h in grind (arith, nat_tests))
-      (cases_lt j 64)
+-- the table after one place of one row was written
+written : (rows : List (List Relation)) (i j : ℕ) (row : List Relation) (x : Relation) → row ≡ get_or rows i row → i < length rows → j < length row → (a b : ℕ) → between (set rows i (set row j x)) a b ≡ cond (eqb a i && eqb b j) x (between rows a b)
+written rows i j row x at hi hj a b =
+    let here : row ≡ get_or rows i [] = at ∙ get_or_default rows i row [] hi in
+    let e = get_d_set rows i a (set row j x) [] hi in
+    let f = get_d_set row j b x Unrelated hj in
+    grind (arith, nat_tests, e, f, here)
 
 pub pair_mutual : (rel : Between) (a b : ℕ) (x : Relation) → (a ≡ b → ⊥) → Mutual rel → Mutual (with_pair rel a b x)
 pair_mutual rel a b x ne m i j = let o = opposite_opposite x in let e = m i j in grind (arith, nat_tests)
@@ -54,14 +48,32 @@ pair_apart rel a b x ne m i = let e = m i in grind (arith, nat_tests)
 pub pair_within : (n : ℕ) (rel : Between) (a b : ℕ) (x : Relation) → a < n → b < n → Within n rel → Within n (with_pair rel a b x)
 pair_within n rel a b x ha hb m i j h = let e = m i j h in grind (arith, nat_tests)
 
+wide_set : (rows : List (List Relation)) (i : ℕ) (row : List Relation) → length row ≡ 64 → i < length rows → Wide rows → Wide (set rows i row)
+wide_set rows i row long hi wide k h =
+    let e = get_d_set rows i k row [] hi in
+    let l : length (set rows i row) ≡ length rows = simp length-set in
+    let f : length (get_or rows k []) ≡ 64 = wide k (omega arith) in
+    grind (arith, nat_tests, e, f, long)
+
 -- a table with no relation in it keeps the promises of its type
-pub none_hold : (rows : List Relation) (n k : ℕ) → rows ≡ replicate k Unrelated → Mutual (between rows) × Apart (between rows) × Within n (between rows)
-none_hold rows n k e =
-    let at : (i j : ℕ) → between rows i j ≡ Unrelated = λ i j. ap (λ l. between l i j) e ∙ between_none k i j in
-    (λ i j. at j i ∙ ap opposite (sym (at i j)), λ i. at i i, λ i j h. at i j)
+pub none_hold : (rows : List (List Relation)) (n : ℕ) → rows ≡ replicate 64 (replicate 64 Unrelated) → Wide rows × Mutual (between rows) × Apart (between rows) × Within n (between rows)
+none_hold rows n e =
+    let at : (i j : ℕ) → between rows i j ≡ Unrelated = λ i j. ap (λ l. between l i j) e ∙ between_none 64 64 i j in
+    let wide : Wide rows = λ i h. ap (λ l. length (get_or l i [])) e ∙ ap length (get_or-replicate 64 i (replicate 64 Unrelated) [] (let l : length (replicate 64 (replicate 64 Unrelated)) ≡ 64 = simp length-replicate in let m : length rows ≡ 64 = ap length e ∙ l in omega arith)) ∙ simp length-replicate in
+    (wide, λ i j. at j i ∙ ap opposite (sym (at i j)), λ i. at i i, λ i j h. at i j)
 
 -- and so does one with a pair more
-pub pair_hold : (rows : List Relation) (n a b : ℕ) (x y : Relation) → length rows ≡ 4096 → n ≤ 64 → a < n → b < n → (a ≡ b → ⊥) → y ≡ opposite x → Mutual (between rows) → Apart (between rows) → Within n (between rows) → let new : List Relation = set (set rows (a * 64 + b) x) (b * 64 + a) y in ((i j : ℕ) → between new i j ≡ with_pair (between rows) a b x i j) × Mutual (between new) × Apart (between new) × Within n (between new)
-pair_hold rows n a b x y long few ha hb ne is m p w =
-    let at : (i j : ℕ) → between (set (set rows (a * 64 + b) x) (b * 64 + a) y) i j ≡ with_pair (between rows) a b x i j = λ i j. ap (λ z. between (set (set rows (a * 64 + b) x) (b * 64 + a) z) i j) is ∙ between_set rows a b x long (omega arith) (omega arith) ne i j in
-    (at, λ i j. at j i ∙ pair_mutual (between rows) a b x ne m i j ∙ ap opposite (sym (at i j)), λ i. at i i ∙ pair_apart (between rows) a b x ne p i, λ i j h. at i j ∙ pair_within n (between rows) a b x ha hb w i j h)
+pub pair_hold : (rows : List (List Relation)) (n a b : ℕ) (x y : Relation) (u v : List Relation) → length rows ≡ 64 → n ≤ 64 → a < n → b < n → (a ≡ b → ⊥) → y ≡ opposite x → u ≡ get_or rows a u → v ≡ get_or (set rows a (set u b x)) b v → Wide rows → Mutual (between rows) → Apart (between rows) → Within n (between rows) → let new : List (List Relation) = set (set rows a (set u b x)) b (set v a y) in ((i j : ℕ) → between new i j ≡ with_pair (between rows) a b x i j) × Wide new × Mutual (between new) × Apart (between new) × Within n (between new)
+pair_hold rows n a b x y u v long few ha hb ne is hu hv wide m p w =
+    let la : length u ≡ 64 = ap length (hu ∙ get_or_default rows a u [] (omega arith)) ∙ wide a (omega arith) in
+    let la' : length (set u b x) ≡ 64 = (simp length-set) ∙ la in
+    let l1 : length (set rows a (set u b x)) ≡ 64 = (simp length-set) ∙ long in
+    let w1 : Wide (set rows a (set u b x)) = wide_set rows a (set u b x) la' (omega arith) wide in
+    let lb : length v ≡ 64 = ap length (hv ∙ get_or_default (set rows a (set u b x)) b v [] (omega arith)) ∙ w1 b (omega arith) in
+    let lb' : length (set v a y) ≡ 64 = (simp length-set) ∙ lb in
+    let w2 : Wide (set (set rows a (set u b x)) b (set v a y)) = wide_set (set rows a (set u b x)) b (set v a y) lb' (omega arith) w1 in
+    let at : (i j : ℕ) → between (set (set rows a (set u b x)) b (set v a y)) i j ≡ with_pair (between rows) a b x i j = λ i j.
+    (let e = written rows a b u x hu (omega arith) (omega arith) i j in
+    let f = written (set rows a (set u b x)) b a v y hv (omega arith) (omega arith) i j in
+    grind (arith, nat_tests, e, f, is)) in
+    (at, w2, λ i j. at j i ∙ pair_mutual (between rows) a b x ne m i j ∙ ap opposite (sym (at i j)), λ i. at i i ∙ pair_apart (between rows) a b x ne p i, λ i j h. at i j ∙ pair_within n (between rows) a b x ha hb w i j h)

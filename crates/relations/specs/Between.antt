@@ -1,5 +1,5 @@
 -- What networks are to each other, and when both ends say the same. Assumes nothing.
-use Rattle.std.specs.Prelude.{◌≡◌, ℕ, ◌+◌, ◌*◌, ◌≤◌, Bool, true, false, cond, ◌&&◌, List, ◌==◌, nat_lt, slice_index_or}
+use Rattle.std.specs.Prelude.{◌≡◌, ℕ, ◌<◌, ◌≤◌, Bool, true, false, cond, ◌&&◌, List, [], length, ◌==◌, slice_index_or}
 use Rattle.relations.specs.declared.relation.Relation.{Relation}
 use Rattle.relations.specs.declared.relation.Relation.TheVariants.{Unrelated, Customer, Peer, Provider}
 
@@ -37,9 +37,13 @@ Apart rel = (i : ℕ) → rel i i ≡ Unrelated
 abbrev pub Within : ℕ → Between → Type 0
 Within n rel = (i j : ℕ) → n ≤ i → rel i j ≡ Unrelated
 
--- what a table says, with 64 places for each network: the place of j in the row of i
-abbrev pub between : List Relation → Between
-between rows i j = cond (nat_lt j 64) (slice_index_or rows (i * 64 + j) Unrelated) Unrelated
+-- each row has 64 places
+abbrev pub Wide : List (List Relation) → Type 0
+Wide rows = (i : ℕ) → i < length rows → length (slice_index_or rows i []) ≡ 64
+
+-- what a table says, with a row for each network: the place of j in the row of i
+abbrev pub between : List (List Relation) → Between
+between rows i j = slice_index_or (slice_index_or rows i []) j Unrelated
 
 abbrev pub unrelated : Between
 unrelated i j = Unrelated

@@ -3,15 +3,11 @@ ghost use Rattle.relations.specs.Heights.{Heights};
 ghost use Rattle.relations.specs.Unique.{OneFirst};
 
 // Where there is no cycle, providers stand above their customers.
-pub fn heights_exist() -> u8
+pub fn heights_exist()
     ensures { Heights }
-{
-    0
-}
+{}
 
 // At most one cycle is the first.
-pub fn first_is_unique() -> u8
+pub fn first_is_unique()
     ensures { OneFirst }
-{
-    0
-}
+{}

@@ -1,17 +1,18 @@
 // A table of what networks are to each other, in which both ends always say the same.
 ghost use Rattle.std.specs.Prelude.{◌≡◌, ◌≤◌, vec_len};
-ghost use Rattle.relations.specs.Between.{Apart, Mutual, Within, between};
+ghost use Rattle.relations.specs.Between.{Apart, Mutual, Wide, Within, between};
 
 use crate::relation::Relation;
 
 mod methods;
 
-// Row i has 64 places, of which place j says what network j is to network i.
+// Place j of row i says what network j is to network i.
 #[derive(Drop)]
 pub struct Matrix {
     networks: u8,
-    rows: Vec<Relation>,
-    ghost long: { vec_len rows ≡ 4096 },
+    rows: Vec<[Relation; 64]>,
+    ghost long: { vec_len rows ≡ 64 },
+    ghost wide: { Wide rows.items },
     ghost few: { networks ≤ 64 },
     ghost mutual: { Mutual (between rows.items) },
     ghost apart: { Apart (between rows.items) },

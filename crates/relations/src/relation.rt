@@ -1,8 +1,9 @@
 // What one network is to another.
 ghost use Rattle.std.specs.Prelude.{◌≡◌};
-ghost use Rattle.relations.specs.Between.{opposite};
+ghost use Rattle.relations.specs.Between.{opposite, related};
 
-// What the other network is to this one. The villages call two related networks tied.
+// What the other network is to this one. The villages call two related networks tied. `Unrelated` is a case, and no
+// `Option` around the others, since the table, the opposite and every law speak of all four.
 #[derive(Clone, Copy, Debug, PartialEq, Eq)]
 pub enum Relation {
     Unrelated,
@@ -31,5 +32,12 @@ impl Relation {
             Relation::Peer => Relation::Peer,
             Relation::Provider => Relation::Customer,
         }
+    }
+
+    // Whether the two are related at all.
+    pub fn is_related(self) -> bool
+        ensures { result ≡ related self }
+    {
+        self != Relation::Unrelated
     }
 }

@@ -1,62 +1,41 @@
 -- A line tells what it was made of. Assumes nothing.
-use Rattle.std.proofs.Common.{◌≡◌, ℕ, ◌+◌, ◌%◌, ◌^◌, ◌<◌, Bool, true, cond, not, ◌&&◌, leb, List, [], ◌∷◌, ◌++◌, length, get_or, drop, codes, decimal, sym, refl, ap, ◌∙◌, append_assoc, arith}
-use Rattle.std.proofs.lemmas.Fmt.{decimal_by_steps, decimal_nonempty, decimal_injective}
-use Rattle.std.proofs.lemmas.Bool.{and_parts, and_from}
+use Rattle.std.proofs.Common.{◌≡◌, ℕ, ◌^◌, ◌<◌, Bool, true, cond, not, List, [], ◌∷◌, ◌++◌, length, get_or, drop, codes, decimal, sym, refl, ap, ◌∙◌, append_assoc, arith}
+use Rattle.std.specs.Char.{is_ascii_digit}
+use Rattle.std.specs.Str.{all_ascii_digits}
+use Rattle.std.specs.Str.Parse.{digits_value}
+use Rattle.std.proofs.lemmas.Fmt.{decimal_nonempty, decimal_injective, digits_decimal}
+use Rattle.std.proofs.lemmas.List.{append_cancel_left}
+use Rattle.std.proofs.lemmas.Str.Parse.{IsNumeralModel, numerals_by_value, tells_all_ascii_digits}
+use Rattle.std.proofs.lemmas.Bool.{and_parts}
 use Rattle.std.proofs.lemmas.Bool.Decides.{nat_tests}
 use Rattle.text.specs.Row.{spelled}
 use Rattle.selection.specs.Choosing.{Choice, nothing, local, via}
 use Rattle.report.specs.Laws.{AllSmall, LinesTell, Small}
 use Rattle.report.specs.Routes.{route_words}
 
-abbrev is_digit : ℕ → Bool
-is_digit b = leb 48 b && leb b 57
-
-abbrev digits : List ℕ → Bool
-digits [] = true
-digits (b ∷ bs) = is_digit b && digits bs
+-- what the library knows of texts of digits
+own : IsNumeralModel (λ ds. all_ascii_digits ds ≡ true) (digits_value 10)
+own = numerals_by_value _ tells_all_ascii_digits
 
 -- no digit comes first
 abbrev stops : List ℕ → Bool
 stops [] = true
-stops (b ∷ bs) = not (is_digit b)
+stops (b ∷ bs) = not (is_ascii_digit b)
 
+-- the digits that come first
 abbrev lead : List ℕ → List ℕ
 lead [] = []
-lead (b ∷ bs) = cond (is_digit b) (b ∷ lead bs) []
-
-abbrev rest : List ℕ → List ℕ
-rest [] = []
-rest (b ∷ bs) = cond (is_digit b) (rest bs) (b ∷ bs)
-
-digits_append : (xs ys : List ℕ) → digits xs ≡ true → digits ys ≡ true → digits (xs ++ ys) ≡ true
-digits_append [] ys p q = q
-digits_append (b ∷ bs) ys p q = let h = and_parts (is_digit b) (digits bs) p in and_from (is_digit b) _ h.0 (digits_append bs ys h.1 q)
-
-one_digit : (d : ℕ) → d < 10 → digits ((48 + d) ∷ []) ≡ true
-one_digit d h = grind (arith, nat_tests)
-
-digits_decimal : (n : ℕ) → n < 2 ^ 64 → digits (decimal n) ≡ true
-digits_decimal = decimal_by_steps (λ n ds. digits ds ≡ true) one_digit (λ n ds h e. digits_append ds ((48 + n % 10) ∷ []) e (one_digit (n % 10) (omega arith)))
+lead (b ∷ bs) = cond (is_ascii_digit b) (b ∷ lead bs) []
 
 lead_stops : (xs : List ℕ) → stops xs ≡ true → lead xs ≡ []
 lead_stops [] h = refl
 lead_stops (b ∷ bs) h = grind (arith, nat_tests)
 
-rest_stops : (xs : List ℕ) → stops xs ≡ true → rest xs ≡ xs
-rest_stops [] h = refl
-rest_stops (b ∷ bs) h = grind (arith, nat_tests)
-
-lead_on : (ds xs : List ℕ) → digits ds ≡ true → stops xs ≡ true → lead (ds ++ xs) ≡ ds
+lead_on : (ds xs : List ℕ) → all_ascii_digits ds ≡ true → stops xs ≡ true → lead (ds ++ xs) ≡ ds
 lead_on [] xs p q = lead_stops xs q
 lead_on (b ∷ bs) xs p q =
-    let h = and_parts (is_digit b) (digits bs) p in
+    let h = and_parts (is_ascii_digit b) (all_ascii_digits bs) p in
     ap (λ t. cond t (b ∷ lead (bs ++ xs)) []) h.0 ∙ ap (λ l. b ∷ l) (lead_on bs xs h.1 q)
-
-rest_on : (ds xs : List ℕ) → digits ds ≡ true → stops xs ≡ true → rest (ds ++ xs) ≡ xs
-rest_on [] xs p q = rest_stops xs q
-rest_on (b ∷ bs) xs p q =
-    let h = and_parts (is_digit b) (digits bs) p in
-    ap (λ t. cond t (rest (bs ++ xs)) (b ∷ bs ++ xs)) h.0 ∙ rest_on bs xs h.1 q
 
 wide : (n : ℕ) → n < 256 → n < 2 ^ 64
 wide n h = omega arith
@@ -64,11 +43,10 @@ wide n h = omega arith
 -- a number, and what follows it
 number_split : (m n : ℕ) (xs ys : List ℕ) → m < 256 → n < 256 → stops xs ≡ true → stops ys ≡ true → decimal m ++ xs ≡ decimal n ++ ys → (m ≡ n) × (xs ≡ ys)
 number_split m n xs ys hm hn sx sy e =
-    let dm = digits_decimal m (wide m hm) in
-    let dn = digits_decimal n (wide n hn) in (
-      decimal_injective m n (wide m hm) (wide n hn) (sym (lead_on (decimal m) xs dm sx) ∙ ap lead e ∙ lead_on (decimal n) ys dn sy),
-      sym (rest_on (decimal m) xs dm sx) ∙ ap rest e ∙ rest_on (decimal n) ys dn sy,
-    )
+    let dm = digits_decimal own m (wide m hm) in
+    let dn = digits_decimal own n (wide n hn) in
+    let same : decimal m ≡ decimal n = sym (lead_on (decimal m) xs dm sx) ∙ ap lead e ∙ lead_on (decimal n) ys dn sy in
+    (decimal_injective m n (wide m hm) (wide n hn) same, append_cancel_left (decimal n) xs ys (sym (ap (λ l. l ++ xs) same) ∙ e))
 
 -- a row of numbers, and the end of the line
 abbrev row : List ℕ → List ℕ
@@ -94,7 +72,7 @@ same_after (x ∷ p) (y ∷ q) h e = h (ap (drop 2) e)
 
 no_row : (x : ℕ) (p : List ℕ) → x < 256 → row [] ≡ row (x ∷ p) → ⊥
 no_row x p h e =
-    let none : [] ≡ decimal x = ap lead (e ∙ row_first x p) ∙ lead_on (decimal x) (after p) (digits_decimal x (wide x h)) (after_stops p) in
+    let none : [] ≡ decimal x = ap lead (e ∙ row_first x p) ∙ lead_on (decimal x) (after p) (digits_decimal own x (wide x h)) (after_stops p) in
     omega (arith, decimal_nonempty x (wide x h), ap length none)
 
 same_row : (p q : List ℕ) → AllSmall p → AllSmall q → row p ≡ row q → p ≡ q

@@ -1,18 +1,17 @@
 // The homes of the blocks, each a word: word k is the home of block k.
-ghost use Rattle.std.specs.Prelude.{◌≡◌, [], ◌∷◌, ◌++◌, Ok, MatchResult, OnOk};
+ghost use Rattle.std.specs.Prelude.{◌≡◌, Ok, MatchResult};
 ghost use Rattle.report.specs.Homes.{Refused, home_said, homes_said};
+ghost use Rattle.report.specs.declared.homes.HomeCause.TheVariants.{Word};
 ghost use Rattle.report.specs.declared.homes.HomeRefusal.TheVariants.{Memory};
 
 use script::read_network;
+use simulation::MOST_BLOCKS;
 use std::alloc::{AllocError, Global};
 
 mod wording;
 
-// The most blocks that there may be.
-const MOST_BLOCKS: usize = 64;
-
 // What is wrong with a word.
-#[derive(Clone, Copy)]
+#[derive(Clone, Copy, Debug, PartialEq, Eq)]
 pub enum HomeCause {
     // it says no network
     Word(script::Cause),
@@ -20,12 +19,20 @@ pub enum HomeCause {
     TooMany,
 }
 
-#[derive(Drop)]
+#[derive(Debug, Drop)]
 pub enum HomeRefusal {
     // the first word with a fault, counted from 0
     Fault { place: usize, cause: HomeCause },
     // memory could not be had; the words may be right
     Memory,
+}
+
+impl From<script::Cause> for HomeCause {
+    ghost from_gives = { λ cause r. r ≡ Word cause };
+
+    fn from(cause: script::Cause) -> HomeCause {
+        HomeCause::Word(cause)
+    }
 }
 
 impl From<AllocError> for HomeRefusal {
@@ -40,24 +47,12 @@ impl From<AllocError> for HomeRefusal {
 fn read_home(word: &[u8], place: usize, networks: u8) -> Result<u8, HomeCause>
     ensures { result ≡ home_said networks place word.now }
 {
-    match read_network(word, networks) {
-        Ok(home) => {
-            if place < MOST_BLOCKS {
-                Ok(home)
-            } else {
-                Err(HomeCause::TooMany)
-            }
-        }
-        Err(cause) => Err(HomeCause::Word(cause)),
+    let home = read_network(word, networks)?;
+    if place < MOST_BLOCKS {
+        Ok(home)
+    } else {
+        Err(HomeCause::TooMany)
     }
-}
-
-// One home more.
-fn add(homes: &mut Vec<u8>, home: u8) -> Result<(), AllocError>
-    ensures { OnOk result (homes.new.items ≡ homes.old.items ++ (home ∷ [])) }
-{
-    homes.push(home)?;
-    Ok(())
 }
 
 // The homes that the words are, or the first fault.
@@ -66,10 +61,9 @@ pub fn read_homes(words: &[String], networks: u8, heap: Global) -> Result<Vec<u8
 {
     let mut homes = Vec::new(heap);
     for (place, word) in words.iter().enumerate() {
-        match read_home(word.as_bytes(), place, networks) {
-            Ok(home) => add(&mut homes, home)?,
-            Err(cause) => return Err(HomeRefusal::Fault { place, cause }),
-        }
+        let fault = |cause| HomeRefusal::Fault { place, cause };
+        let home = read_home(word.as_bytes(), place, networks).map_err(fault)?;
+        homes.push(home).map_err(AllocError::from)?;
     }
     Ok(homes)
 }

@@ -10,5 +10,5 @@ mod steps;
 pub use homes::{HomeCause, HomeRefusal, read_homes};
 pub use laws::lines_tell_routes;
 pub use playing::play;
-pub use routes::{push_route, show};
-pub use steps::{line_fault, step_fault};
+pub use routes::{RouteLine, Shown};
+pub use steps::{StepFault, line_fault};

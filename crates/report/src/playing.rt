@@ -1,25 +1,12 @@
 // Commands are played.
 ghost use Rattle.std.specs.Prelude.{◌≡◌, MatchResult};
-ghost use Rattle.simulation.specs.Resting.{Hearings};
-ghost use Rattle.simulation.specs.declared.cause.Cause.TheVariants.{Memory};
 ghost use Rattle.simulation.specs.Simulated.{state_of, world_of};
-ghost use Rattle.report.specs.Playing.{Done, NotDone, Rested};
+ghost use Rattle.report.specs.Playing.{Done, NotDone};
 
 use script::Command;
 use simulation::{Cause, Simulation};
 
-// Everything that is in flight is heard.
-fn rest(simulation: &mut Simulation) -> Result<(), Cause>
-    ensures world { world_of simulation.new ≡ world_of simulation.old }
-    ensures played { MatchResult result (λ _. Rested (world_of simulation.old) (state_of simulation.old) (state_of simulation.new)) (λ cause. (cause ≡ Memory) × Hearings (world_of simulation.old) (state_of simulation.old) (state_of simulation.new)) }
-{
-    match simulation.rest() {
-        Ok(()) => Ok(()),
-        Err(_) => Err(Cause::Memory),
-    }
-}
-
-// Does what a command asks; showing changes nothing, and `show` has its text.
+// Does what a command asks; showing changes nothing, and `Shown` has its text.
 pub fn play(simulation: &mut Simulation, command: Command) -> Result<(), Cause>
     ensures world { world_of simulation.new ≡ world_of simulation.old }
     ensures played { MatchResult result (λ _. Done (world_of simulation.old) command (state_of simulation.old) (state_of simulation.new)) (NotDone command simulation.old simulation.new) }
@@ -28,6 +15,6 @@ pub fn play(simulation: &mut Simulation, command: Command) -> Result<(), Cause>
         Command::Turn { first, second, up } => simulation.turn(first, second, up),
         Command::Hear { from, to } => simulation.hear(from, to),
         Command::Show { .. } => Ok(()),
-        Command::Rest => rest(simulation),
+        Command::Rest => Ok(simulation.rest()?),
     }
 }

@@ -1,29 +1,47 @@
 // A line that is not read, or not played.
-ghost use Rattle.std.specs.Prelude.{◌≡◌, IfOk, string_bytes};
-ghost use Rattle.script.specs.Faults.{number};
-ghost use Rattle.script.specs.Words.{cause_words, fault_words};
+ghost use Rattle.std.specs.Prelude.{◌≡◌, Some};
+ghost use Rattle.script.specs.Faults.{number as number_of};
 ghost use Rattle.report.specs.Steps.{step_words};
 
-use script::push_fault;
-use std::alloc::{AllocError, Global};
+use script::LineFault;
+use std::fmt;
 
-// What is told of a line that is not read. Only want of memory is an error.
-pub fn line_fault(cause: script::Cause, line: usize, heap: Global) -> Result<String, AllocError>
-    ensures { IfOk result (λ text. string_bytes text ≡ fault_words (number cause) line (cause_words cause)) }
+// What is told of a line that is not read.
+pub fn line_fault(cause: script::Cause, line: usize) -> LineFault<script::Cause>
+    ensures number { result.number ≡ number_of cause }
+    ensures line { result.line ≡ line }
+    ensures cause { result.cause ≡ cause }
 {
-    let mut out = String::new(heap);
-    push_fault(&mut out, cause.number(), line, cause.text())?;
-    Ok(out)
+    let number = cause.number();
+    LineFault {
+        number,
+        line,
+        cause,
+    }
 }
 
-// What is told of a line that is not played. Only want of memory is an error.
-pub fn step_fault(cause: simulation::Cause, line: usize, heap: Global) -> Result<String, AllocError>
-    ensures { IfOk result (λ text. string_bytes text ≡ step_words cause line) }
-{
-    let mut out = String::new(heap);
-    match cause {
-        simulation::Cause::Memory => write!(out, "out of memory at line {line}")?,
-        _ => push_fault(&mut out, cause.number(), line, cause.text())?,
+// What is told of a line that is not played.
+#[derive(Clone, Copy, Debug)]
+pub struct StepFault {
+    pub cause: simulation::Cause,
+    pub line: usize,
+}
+
+impl fmt::Display for StepFault {
+    ghost output = { λ fault. Some (step_words fault.cause fault.line) };
+
+    fn fmt<W: fmt::Write>(&self, f: &mut fmt::Formatter<W>) -> fmt::Result {
+        let line = self.line;
+        match self.cause {
+            simulation::Cause::Memory => write!(f, "out of memory at line {line}"),
+            cause => {
+                let fault = LineFault {
+                    number: cause.number(),
+                    line,
+                    cause,
+                };
+                write!(f, "{fault}")
+            }
+        }
     }
-    Ok(out)
 }

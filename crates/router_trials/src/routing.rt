@@ -1,7 +1,7 @@
 // A router fed by hand: network 1 of four, with customer 0, peer 2 and provider 3; block 0 is at home at 0, block 1 at 3.
 use advertisement::{Announcement, Audience, Update};
 use cycles::sound;
-use links::{Fault, Heard, Router, Tables, Turned};
+use links::{Fault, Router, Tables};
 use relations::{Matrix, Relation, Relations};
 use std::test::Fail;
 
@@ -43,23 +43,23 @@ fn whom(audience: Audience) -> (bool, bool, bool) {
     )
 }
 
-fn heard(answer: Heard) -> Result<(bool, bool, bool), Fail> {
+fn heard(answer: Result<Audience, Fault>) -> Result<(bool, bool, bool), Fail> {
     match answer {
-        Heard::Taken(audience) => Ok(whom(audience)),
-        Heard::Refused(_) => Err(Fail::new("refused")),
+        Ok(audience) => Ok(whom(audience)),
+        Err(_) => Err(Fail::new("refused")),
     }
 }
 
-fn refused(answer: Heard, fault: Fault) -> Result<(), Fail> {
+fn refused(answer: Result<Audience, Fault>, fault: Fault) -> Result<(), Fail> {
     match answer {
-        Heard::Refused(told) => {
+        Err(told) => {
             if told == fault {
                 Ok(())
             } else {
                 Err(Fail::new("refused for another fault"))
             }
         },
-        Heard::Taken(_) => Err(Fail::new("taken")),
+        Ok(_) => Err(Fail::new("taken")),
     }
 }
 
@@ -117,7 +117,7 @@ fn a_link_that_there_is_not(rt: HostRuntime) -> Result<(), Fail> {
     let ties = ties(rt)?;
     let mut tables = blocks(rt)?;
     let (_, turned) = Router::new(1).turn(&ties, &mut tables, 1, true);
-    assert!(rt; matches!(turned, Turned::Refused(Fault::NoLink)));
+    assert!(rt; matches!(turned, Err(Fault::NoLink)));
     Ok(())
 }
 

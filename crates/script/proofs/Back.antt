@@ -6,6 +6,7 @@ use Rattle.std.proofs.lemmas.Bool.Decides.{nat_tests}
 use Rattle.script.specs.declared.cause.Cause.TheVariants.{BadByte}
 use Rattle.script.specs.declared.command.Command.{Command}
 use Rattle.script.specs.declared.command.Command.TheVariants.{Turn, Hear, Show, Rest}
+use Rattle.script.specs.declared.command.Limits.{Limits}
 use Rattle.script.specs.Digits.{is_digit, value, value_after}
 use Rattle.script.specs.Faults.{is, plain, is_plain, told, words_have}
 use Rattle.script.specs.Laws.{ReadsBack, ScriptReadsBack}
@@ -68,7 +69,6 @@ before_clear p no_stop (b ∷ bs) rest h =
     before_on p b (bs ++ rest) (no_stop b e.0) ∙ ap (λ l. b ∷ l) (before_clear p no_stop bs rest e.1)
 
 plain_clear : (w rest : List ℕ) → all_clear w ≡ true → plain (w ++ rest) ≡ plain rest
-unfolding plain
 plain_clear [] rest h = refl
 plain_clear (b ∷ bs) rest h =
     let e = and_parts (clear b) (all_clear bs) h in
@@ -108,7 +108,7 @@ no_feed : (b : ℕ) → clear b ≡ true → is_feed b ≡ false
 no_feed b h = grind (arith, nat_tests)
 
 holds_last : (w : List ℕ) → Word w → Holds w (w ∷ [])
-unfolding before plain words
+unfolding before words
 holds_last w h =
     let whole = append-nil w in
     record {
@@ -119,7 +119,6 @@ holds_last w h =
     }
 
 holds_more : (w : List ℕ) (rest : List ℕ) (ws : List (List ℕ)) → Word w → Holds rest ws → Holds (w ++ (32 ∷ rest)) (w ∷ ws)
-unfolding plain
 holds_more w rest ws h on = record {
   bare = before_clear is_mark no_mark w (32 ∷ rest) h.0 ∙ ap (λ l. w ++ l) (before_on is_mark 32 rest refl ∙ ap (λ l. 32 ∷ l) on.bare);
   good = plain_clear w (32 ∷ rest) h.0 ∙ on.good;
@@ -131,20 +130,20 @@ spaced_holds : (w : List ℕ) (ws : List (List ℕ)) → Word w → AllWords ws 
 spaced_holds w [] h hs = holds_last w h
 spaced_holds w (v ∷ vs) h hs = holds_more w (spaced (v ∷ vs)) (v ∷ vs) h (spaced_holds v vs hs.0 hs.1)
 
-held_reads : (n m : ℕ) (line : List ℕ) (ws : List (List ℕ)) → Holds line ws → read_line n m line ≡ read_words n m ws
-held_reads n m line ws h =
-    ap (λ l. judged (told (λ c. (is c BadByte && not (plain l)) || words_have n m (words l) c)) (meaning (words l))) h.bare ∙
-    (λ i. judged (told (λ c. (is c BadByte && not (h.good i)) || words_have n m (h.cut i) c)) (meaning (h.cut i)))
+held_reads : (limits : Limits) (line : List ℕ) (ws : List (List ℕ)) → Holds line ws → read_line limits line ≡ read_words limits ws
+held_reads limits line ws h =
+    ap (λ l. judged (told (λ c. (is c BadByte && not (plain l)) || words_have limits (words l) c)) (meaning (words l))) h.bare ∙
+    (λ i. judged (told (λ c. (is c BadByte && not (h.good i)) || words_have limits (h.cut i) c)) (meaning (h.cut i)))
 
-module _ (n m : ℕ) where
-  turn_reads : (i j : ℕ) (w v : List ℕ) (up : Bool) → value w ≡ Some i → value v ≡ Some j → leb n i ≡ false → leb n j ≡ false → read_words n m (codes "turn" ∷ w ∷ v ∷ cond up (codes "up") (codes "down") ∷ []) ≡ Ok (Some (Turn i j up))
+module _ (limits : Limits) where
+  turn_reads : (i j : ℕ) (w v : List ℕ) (up : Bool) → value w ≡ Some i → value v ≡ Some j → leb limits.networks i ≡ false → leb limits.networks j ≡ false → read_words limits (codes "turn" ∷ w ∷ v ∷ cond up (codes "up") (codes "down") ∷ []) ≡ Ok (Some (Turn i j up))
   turn_reads i j w v true e f p q = rw (e, f, p, q) refl
   turn_reads i j w v false e f p q = rw (e, f, p, q) refl
 
-  hear_reads : (i j : ℕ) (w v : List ℕ) → value w ≡ Some i → value v ≡ Some j → leb n i ≡ false → leb n j ≡ false → read_words n m (codes "hear" ∷ w ∷ v ∷ []) ≡ Ok (Some (Hear i j))
+  hear_reads : (i j : ℕ) (w v : List ℕ) → value w ≡ Some i → value v ≡ Some j → leb limits.networks i ≡ false → leb limits.networks j ≡ false → read_words limits (codes "hear" ∷ w ∷ v ∷ []) ≡ Ok (Some (Hear i j))
   hear_reads i j w v e f p q = rw (e, f, p, q) refl
 
-  show_reads : (i : ℕ) (w : List ℕ) → value w ≡ Some i → leb m i ≡ false → read_words n m (codes "show" ∷ w ∷ []) ≡ Ok (Some (Show i))
+  show_reads : (i : ℕ) (w : List ℕ) → value w ≡ Some i → leb limits.blocks i ≡ false → read_words limits (codes "show" ∷ w ∷ []) ≡ Ok (Some (Show i))
   show_reads i w e p = rw (e, p) refl
 
 number_word : (n : ℕ) → n < 2 ^ 64 → Word (decimal n)
@@ -154,24 +153,24 @@ up_word : (up : Bool) → Word (cond up (codes "up") (codes "down"))
 up_word true = (refl, omega arith)
 up_word false = (refl, omega arith)
 
-written_holds : (n b : ℕ) (c : Command) → n < 256 → b < 65536 → Within n b c → Holds (written c) (said c)
-written_holds n b (Turn i j up) p q h = spaced_holds _ _ (refl, omega arith) (number_word i (omega (arith, h.0)), (number_word j (omega (arith, h.1)), (up_word up, tt)))
-written_holds n b (Hear i j) p q h = spaced_holds _ _ (refl, omega arith) (number_word i (omega (arith, h.0)), (number_word j (omega (arith, h.1)), tt))
-written_holds n b (Show k) p q h = spaced_holds _ _ (refl, omega arith) (number_word k (omega (arith, h)), tt)
-written_holds n b Rest p q h = spaced_holds _ _ (refl, omega arith) tt
+written_holds : (limits : Limits) (c : Command) → limits.networks < 256 → limits.blocks < 65536 → Within limits c → Holds (written c) (said c)
+written_holds limits (Turn i j up) p q h = spaced_holds _ _ (refl, omega arith) (number_word i (omega (arith, h.0)), (number_word j (omega (arith, h.1)), (up_word up, tt)))
+written_holds limits (Hear i j) p q h = spaced_holds _ _ (refl, omega arith) (number_word i (omega (arith, h.0)), (number_word j (omega (arith, h.1)), tt))
+written_holds limits (Show k) p q h = spaced_holds _ _ (refl, omega arith) (number_word k (omega (arith, h)), tt)
+written_holds limits Rest p q h = spaced_holds _ _ (refl, omega arith) tt
 
-said_reads : (n b : ℕ) (c : Command) → n < 256 → b < 65536 → Within n b c → read_words n b (said c) ≡ Ok (Some c)
-said_reads n b (Turn i j up) p q h = turn_reads n b i j _ _ up (value_decimal i (omega (arith, h.0))) (value_decimal j (omega (arith, h.1))) (lt-leb n i h.0) (lt-leb n j h.1)
-said_reads n b (Hear i j) p q h = hear_reads n b i j _ _ (value_decimal i (omega (arith, h.0))) (value_decimal j (omega (arith, h.1))) (lt-leb n i h.0) (lt-leb n j h.1)
-said_reads n b (Show k) p q h = show_reads n b k _ (value_decimal k (omega (arith, h))) (lt-leb b k h)
-said_reads n b Rest p q h = refl
+said_reads : (limits : Limits) (c : Command) → limits.networks < 256 → limits.blocks < 65536 → Within limits c → read_words limits (said c) ≡ Ok (Some c)
+said_reads limits (Turn i j up) p q h = turn_reads limits i j _ _ up (value_decimal i (omega (arith, h.0))) (value_decimal j (omega (arith, h.1))) (lt-leb limits.networks i h.0) (lt-leb limits.networks j h.1)
+said_reads limits (Hear i j) p q h = hear_reads limits i j _ _ (value_decimal i (omega (arith, h.0))) (value_decimal j (omega (arith, h.1))) (lt-leb limits.networks i h.0) (lt-leb limits.networks j h.1)
+said_reads limits (Show k) p q h = show_reads limits k _ (value_decimal k (omega (arith, h))) (lt-leb limits.blocks k h)
+said_reads limits Rest p q h = refl
 
 pub reads_back : ReadsBack
-reads_back n b c p q h = held_reads n b (written c) (said c) (written_holds n b c p q h) ∙ said_reads n b c p q h
+reads_back limits c p q h = held_reads limits (written c) (said c) (written_holds limits c p q h) ∙ said_reads limits c p q h
 
 pub script_reads_back : ScriptReadsBack
 unfolding lines entries_in
-script_reads_back n b k [] p q h = refl
-script_reads_back n b k (c ∷ cs) p q h =
-    line_by_line n b k (written c) (all_written cs) (written_holds n b c p q h.0).feedless ∙
-    (λ i. noted (reads_back n b c p q h.0 i) (k + 1) (script_reads_back n b (k + 1) cs p q h.1 i))
+script_reads_back limits k [] p q h = refl
+script_reads_back limits k (c ∷ cs) p q h =
+    line_by_line limits k (written c) (all_written cs) (written_holds limits c p q h.0).feedless ∙
+    (λ i. noted (reads_back limits c p q h.0 i) (k + 1) (script_reads_back limits (k + 1) cs p q h.1 i))

@@ -5,6 +5,7 @@ use Rattle.std.proofs.lemmas.Bool.{leb-false, or_parts, both_ways}
 use Rattle.script.specs.declared.cause.Cause.{Cause}
 use Rattle.script.specs.declared.cause.Cause.TheVariants.{BadByte, UnknownWord, MissingWord, SurplusWord, NotANumber, NoSuchNetwork, NoSuchBlock}
 use Rattle.script.specs.declared.command.Command.{Command}
+use Rattle.script.specs.declared.command.Limits.{Limits}
 use Rattle.script.specs.Digits.{value}
 use Rattle.script.specs.Faults.{Part, Verb, block, form, hear, line_has, network, part_has, parts_have, reaches, show, rest, state, told, turn, verb, verb_has, words_have}
 use Rattle.script.specs.Meaning.{asked, judged, meaning, number_at, read_line}
@@ -38,32 +39,32 @@ below : (limit : ℕ) (o : Option ℕ) → not (is_some o) ≡ false → reaches
 below limit None p q = absurd (both_ways true p refl)
 below limit (Some v) p q = leb-false limit v q
 
-module _ (n b : ℕ) where
-  pair_below : (ps : List Part) (ws : List (List ℕ)) → Clean (parts_have n b (network ∷ network ∷ ps) ws) → (number_at ws 0 < n) × (number_at ws 1 < n)
+module _ (limits : Limits) where
+  pair_below : (ps : List Part) (ws : List (List ℕ)) → Clean (parts_have limits (network ∷ network ∷ ps) ws) → (number_at ws 0 < limits.networks) × (number_at ws 1 < limits.networks)
   pair_below ps [] h = absurd (both_ways true h.missing refl)
   pair_below ps (w ∷ []) h = absurd (both_ways true h.missing refl)
   pair_below ps (w ∷ v ∷ vs) h =
-      let number = or_parts (part_has n b network w NotANumber) _ h.number in
-      let second = or_parts (part_has n b network v NotANumber) _ number.1 in
-      let reach = or_parts (part_has n b network w NoSuchNetwork) _ h.network in
-      let other = or_parts (part_has n b network v NoSuchNetwork) _ reach.1 in
-      (below n (value w) (or_parts (not (is_some (value w))) false number.0).0 reach.0, below n (value v) (or_parts (not (is_some (value v))) false second.0).0 other.0)
+      let number = or_parts (part_has limits network w NotANumber) _ h.number in
+      let second = or_parts (part_has limits network v NotANumber) _ number.1 in
+      let reach = or_parts (part_has limits network w NoSuchNetwork) _ h.network in
+      let other = or_parts (part_has limits network v NoSuchNetwork) _ reach.1 in
+      (below limits.networks (value w) (or_parts (not (is_some (value w))) false number.0).0 reach.0, below limits.networks (value v) (or_parts (not (is_some (value v))) false second.0).0 other.0)
 
-  verb_within : (v : Verb) (ws : List (List ℕ)) → Clean (parts_have n b (form v) ws) → Within n b (asked v ws)
+  verb_within : (v : Verb) (ws : List (List ℕ)) → Clean (parts_have limits (form v) ws) → Within limits (asked v ws)
   verb_within turn ws h = pair_below (state ∷ []) ws h
   verb_within hear ws h = pair_below [] ws h
   verb_within rest ws h = tt
   verb_within show [] h = absurd (both_ways true h.missing refl)
   verb_within show (w ∷ ws) h =
-      let number = or_parts (part_has n b block w NotANumber) _ h.number in
-      let reach = or_parts (part_has n b block w NoSuchBlock) _ h.block in
-      below b (value w) (or_parts (not (is_some (value w))) false number.0).0 reach.0
+      let number = or_parts (part_has limits block w NotANumber) _ h.number in
+      let reach = or_parts (part_has limits block w NoSuchBlock) _ h.block in
+      below limits.blocks (value w) (or_parts (not (is_some (value w))) false number.0).0 reach.0
 
-  named_within : (o : Option Verb) (ws : List (List ℕ)) (c : Command) → Clean (verb_has n b o ws) → option_map (λ v. asked v ws) o ≡ Some c → Within n b c
+  named_within : (o : Option Verb) (ws : List (List ℕ)) (c : Command) → Clean (verb_has limits o ws) → option_map (λ v. asked v ws) o ≡ Some c → Within limits c
   named_within None ws c h e = let z : ◌≡◌ {A = ℕ} 0 1 = cc in absurd (omega arith)
-  named_within (Some v) ws c h e = let same : asked v ws ≡ c = cc in subst (Within n b) same (verb_within v ws h)
+  named_within (Some v) ws c h e = let same : asked v ws ≡ c = cc in subst (Within limits) same (verb_within v ws h)
 
-  words_within : (ws : List (List ℕ)) (c : Command) → Clean (words_have n b ws) → meaning ws ≡ Some c → Within n b c
+  words_within : (ws : List (List ℕ)) (c : Command) → Clean (words_have limits ws) → meaning ws ≡ Some c → Within limits c
   words_within [] c h e = let z : ◌≡◌ {A = ℕ} 0 1 = cc in absurd (omega arith)
   words_within (w ∷ ws) c h e = named_within (verb w) ws c h e
 
@@ -71,8 +72,8 @@ judged_ok : {X : Type 0} (o : Option Cause) (x y : X) → judged o x ≡ Ok y �
 judged_ok None x y e = (refl, cc)
 judged_ok (Some c) x y e = let z : ◌≡◌ {A = ℕ} 0 1 = cc in absurd (omega arith)
 
-pub line_within : (n b : ℕ) (l : List ℕ) (c : Command) → read_line n b l ≡ Ok (Some c) → Within n b c
-line_within n b l c e =
-    let h = judged_ok (told (line_has n b l)) _ _ e in
-    let line = clean (line_has n b l) h.0 in
-    words_within n b (words (content l)) c (record { missing = line.missing; number = line.number; network = line.network; block = line.block }) h.1
+pub line_within : (limits : Limits) (l : List ℕ) (c : Command) → read_line limits l ≡ Ok (Some c) → Within limits c
+line_within limits l c e =
+    let h = judged_ok (told (line_has limits l)) _ _ e in
+    let line = clean (line_has limits l) h.0 in
+    words_within limits (words (content l)) c (record { missing = line.missing; number = line.number; network = line.network; block = line.block }) h.1

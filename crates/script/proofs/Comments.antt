@@ -16,5 +16,5 @@ content_same [] comment = refl
 content_same (b ∷ bs) comment = content_on (is_mark b) b _ _ (content_same bs comment)
 
 pub comments_say_nothing_lem : CommentsSayNothing
-comments_say_nothing_lem n m line comment =
-    ap (λ l. judged (told (λ c. (is c BadByte && not (plain l)) || words_have n m (words l) c)) (meaning (words l))) (content_same line comment)
+comments_say_nothing_lem limits line comment =
+    ap (λ l. judged (told (λ c. (is c BadByte && not (plain l)) || words_have limits (words l) c)) (meaning (words l))) (content_same line comment)

@@ -16,12 +16,9 @@ lifted_judged : (o : Option Cause) (c : Command) → judged o (Some c) ≡ lifte
 lifted_judged None c = refl
 lifted_judged (Some e) c = refl
 
-by_verb : (n b : ℕ) (o : Option Verb) (ws : List (List ℕ)) → judged (told (verb_has n b o ws)) (option_map (λ v. asked v ws) o) ≡ lifted (read_named n b o ws)
-by_verb n b None ws = refl
-by_verb n b (Some v) ws = lifted_judged (told (parts_have n b (form v) ws)) (asked v ws)
+by_verb : (limits : Limits) (o : Option Verb) (ws : List (List ℕ)) → judged (told (verb_has limits o ws)) (option_map (λ v. asked v ws) o) ≡ lifted (read_named limits o ws)
+by_verb limits None ws = refl
+by_verb limits (Some v) ws = lifted_judged (told (parts_have limits (form v) ws)) (asked v ws)
 
-abbrev pub within : Limits → List (List ℕ) → Result (Option Command) Cause
-within l ws = read_words l.networks l.blocks ws
-
-pub named_words : (l : Limits) (w : List ℕ) (ws : List (List ℕ)) → within l (w ∷ ws) ≡ lifted (read_named l.networks l.blocks (verb w) ws)
-named_words l w ws = by_verb l.networks l.blocks (verb w) ws
+pub named_words : (limits : Limits) (w : List ℕ) (ws : List (List ℕ)) → read_words limits (w ∷ ws) ≡ lifted (read_named limits (verb w) ws)
+named_words limits w ws = by_verb limits (verb w) ws

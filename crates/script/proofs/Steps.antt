@@ -3,6 +3,7 @@ use Rattle.std.proofs.Common.{◌≡◌, ℕ, ◌+◌, ◌<◌, ◌≤◌, Bool,
 use Rattle.std.proofs.lemmas.Bool.{cond-true, cond-false}
 use Rattle.script.specs.declared.cause.Cause.{Cause}
 use Rattle.script.specs.declared.command.Command.{Command}
+use Rattle.script.specs.declared.command.Limits.{Limits}
 use Rattle.script.specs.Meaning.{read_line}
 use Rattle.script.specs.Next.{ahead, ahead_in, reached}
 use Rattle.script.specs.Parts.{before, from, is_feed, lines, longer}
@@ -55,17 +56,17 @@ pub first_line : (b : ℕ) (bs : List ℕ) → FirstLine (b ∷ bs)
 first_line b [] = line_on (is_feed b) b [] refl (only_one b)
 first_line b (d ∷ ds) = line_on (is_feed b) b (d ∷ ds) refl (on_longer b (d ∷ ds) (first_line d ds))
 
-pub ahead_more : (n m k : ℕ) (bs : List ℕ) → 0 < length bs → ahead n m k bs ≡ reached (read_line n m (before is_feed bs)) (k + 1) (beyond bs) (ahead n m (k + 1) (beyond bs))
+pub ahead_more : (limits : Limits) (k : ℕ) (bs : List ℕ) → 0 < length bs → ahead limits k bs ≡ reached (read_line limits (before is_feed bs)) (k + 1) (beyond bs) (ahead limits (k + 1) (beyond bs))
 unfolding ahead_in
-ahead_more n m k [] h = absurd (omega arith)
-ahead_more n m k (b ∷ bs) h = ap (ahead_in n m k) (first_line b bs)
+ahead_more limits k [] h = absurd (omega arith)
+ahead_more limits k (b ∷ bs) h = ap (ahead_in limits k) (first_line b bs)
 
-pub ahead_none : (n m k : ℕ) (bs : List ℕ) → length bs ≡ 0 → ahead n m k bs ≡ record { answer = Ok None; line = k; left = [] }
+pub ahead_none : (limits : Limits) (k : ℕ) (bs : List ℕ) → length bs ≡ 0 → ahead limits k bs ≡ record { answer = Ok None; line = k; left = [] }
 unfolding ahead_in lines
-ahead_none n m k [] h = refl
-ahead_none n m k (b ∷ bs) h = absurd (omega arith)
+ahead_none limits k [] h = refl
+ahead_none limits k (b ∷ bs) h = absurd (omega arith)
 
 -- one line is read, and this is its answer
-pub ahead_read : (n m k k' : ℕ) (bs text left : List ℕ) (r : Result (Option Command) Cause) → 0 < length bs → text ≡ before is_feed bs → left ≡ beyond bs → k' ≡ k + 1 → r ≡ read_line n m text → ahead n m k bs ≡ reached r k' left (ahead n m k' left)
-ahead_read n m k k' bs text left r h t l e a =
-    ahead_more n m k bs h ∙ (λ i. reached (sym (a ∙ ap (read_line n m) t) i) (sym e i) (sym l i) (ahead n m (sym e i) (sym l i)))
+pub ahead_read : (limits : Limits) (k k' : ℕ) (bs text left : List ℕ) (r : Result (Option Command) Cause) → 0 < length bs → text ≡ before is_feed bs → left ≡ beyond bs → k' ≡ k + 1 → r ≡ read_line limits text → ahead limits k bs ≡ reached r k' left (ahead limits k' left)
+ahead_read limits k k' bs text left r h t l e a =
+    ahead_more limits k bs h ∙ (λ i. reached (sym (a ∙ ap (read_line limits) t) i) (sym e i) (sym l i) (ahead limits (sym e i) (sym l i)))

@@ -23,11 +23,3 @@ pub capped_after : (bs : List ℕ) (m k : ℕ) → capped m ≡ capped k → opt
 unfolding value_after
 capped_after [] m k e = ap (λ v. Some v) e
 capped_after (b ∷ bs) m k e = either_way (is_digit b) _ _ (capped_after bs (m * 10 + (b - 48)) (k * 10 + (b - 48)) (capped_step m k (b - 48) e))
-
-pub is_some : (t : Bool) (x d : ℕ) → Some d ≡ cond t (Some x) None → (t ≡ true) × (d ≡ x)
-is_some true x d e = (refl, cc)
-is_some false x d e = let z : ◌≡◌ {A = ℕ} 0 1 = cc in absurd (omega arith)
-
-pub is_none : (t : Bool) (x : ℕ) → None ≡ cond t (Some x) None → t ≡ false
-is_none true x e = let z : ◌≡◌ {A = ℕ} 0 1 = cc in absurd (omega arith)
-is_none false x e = refl

@@ -1,8 +1,10 @@
 -- Which faults a line has, and which of them is told. Assumes nothing.
 use Rattle.std.specs.Prelude.{ℕ, Bool, true, false, cond, not, ◌&&◌, ◌||◌, List, [], ◌∷◌, is_some, Some, None, codes, Option, ◌==◌, nat_le}
+use Rattle.std.specs.List.{find, list_all}
 use Rattle.std.specs.Str.{bytes_eq}
 use Rattle.script.specs.declared.cause.Cause.{Cause}
 use Rattle.script.specs.declared.cause.Cause.TheVariants.{BadByte, UnknownWord, MissingWord, SurplusWord, NotANumber, NoSuchNetwork, NoSuchBlock}
+use Rattle.script.specs.declared.command.Limits.{Limits}
 use Rattle.script.specs.Digits.{value}
 use Rattle.script.specs.Parts.{content, is_blank, words}
 
@@ -21,12 +23,8 @@ abbrev pub causes : List Cause
 causes = BadByte ∷ UnknownWord ∷ MissingWord ∷ SurplusWord ∷ NotANumber ∷ NoSuchNetwork ∷ NoSuchBlock ∷ []
 
 -- the first of the causes that a line has
-abbrev pub first_of : (Cause → Bool) → List Cause → Option Cause
-first_of has [] = None
-first_of has (c ∷ cs) = cond (has c) (Some c) (first_of has cs)
-
 abbrev pub told : (Cause → Bool) → Option Cause
-told has = first_of has causes
+told has = find has causes
 
 abbrev pub place : Cause → ℕ
 place BadByte = 0
@@ -76,36 +74,35 @@ abbrev pub reaches : ℕ → Option ℕ → Bool
 reaches limit None = false
 reaches limit (Some v) = nat_le limit v
 
--- what is wrong with one word, where there are n networks and b blocks
-abbrev pub part_has : ℕ → ℕ → Part → List ℕ → Cause → Bool
-part_has n b network w c = (is c NotANumber && not (is_some (value w))) || (is c NoSuchNetwork && reaches n (value w))
-part_has n b block w c = (is c NotANumber && not (is_some (value w))) || (is c NoSuchBlock && reaches b (value w))
-part_has n b state w c = is c UnknownWord && not (is_some (standing w))
+-- what is wrong with one word
+abbrev pub part_has : Limits → Part → List ℕ → Cause → Bool
+part_has limits network w c = (is c NotANumber && not (is_some (value w))) || (is c NoSuchNetwork && reaches limits.networks (value w))
+part_has limits block w c = (is c NotANumber && not (is_some (value w))) || (is c NoSuchBlock && reaches limits.blocks (value w))
+part_has limits state w c = is c UnknownWord && not (is_some (standing w))
 
 -- what is wrong with the words after the first
-abbrev pub parts_have : ℕ → ℕ → List Part → List (List ℕ) → Cause → Bool
-parts_have n b [] [] c = false
-parts_have n b [] (w ∷ ws) c = is c SurplusWord
-parts_have n b (p ∷ ps) [] c = is c MissingWord
-parts_have n b (p ∷ ps) (w ∷ ws) c = part_has n b p w c || parts_have n b ps ws c
+abbrev pub parts_have : Limits → List Part → List (List ℕ) → Cause → Bool
+parts_have limits [] [] c = false
+parts_have limits [] (w ∷ ws) c = is c SurplusWord
+parts_have limits (p ∷ ps) [] c = is c MissingWord
+parts_have limits (p ∷ ps) (w ∷ ws) c = part_has limits p w c || parts_have limits ps ws c
 
-abbrev pub verb_has : ℕ → ℕ → Option Verb → List (List ℕ) → Cause → Bool
-verb_has n b None ws c = is c UnknownWord
-verb_has n b (Some v) ws c = parts_have n b (form v) ws c
+abbrev pub verb_has : Limits → Option Verb → List (List ℕ) → Cause → Bool
+verb_has limits None ws c = is c UnknownWord
+verb_has limits (Some v) ws c = parts_have limits (form v) ws c
 
 -- what is wrong with the words of a line; with none, nothing
-abbrev pub words_have : ℕ → ℕ → List (List ℕ) → Cause → Bool
-words_have n b [] c = false
-words_have n b (w ∷ ws) c = verb_has n b (verb w) ws c
+abbrev pub words_have : Limits → List (List ℕ) → Cause → Bool
+words_have limits [] c = false
+words_have limits (w ∷ ws) c = verb_has limits (verb w) ws c
 
 -- blank or printable
 abbrev pub is_plain : ℕ → Bool
 is_plain b = is_blank b || (nat_le 33 b && nat_le b 126)
 
-unfoldable pub plain : List ℕ → Bool
-plain [] = true
-plain (b ∷ bs) = is_plain b && plain bs
+abbrev pub plain : List ℕ → Bool
+plain bs = list_all is_plain bs
 
 -- what is wrong with a line
-abbrev pub line_has : ℕ → ℕ → List ℕ → Cause → Bool
-line_has n b l c = (is c BadByte && not (plain (content l))) || words_have n b (words (content l)) c
+abbrev pub line_has : Limits → List ℕ → Cause → Bool
+line_has limits l c = (is c BadByte && not (plain (content l))) || words_have limits (words (content l)) c

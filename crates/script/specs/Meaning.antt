@@ -5,6 +5,7 @@ use Rattle.script.specs.declared.cause.Cause.{Cause}
 use Rattle.script.specs.declared.cause.Cause.TheVariants.{UnknownWord}
 use Rattle.script.specs.declared.command.Command.{Command}
 use Rattle.script.specs.declared.command.Command.TheVariants.{Turn, Hear, Show, Rest}
+use Rattle.script.specs.declared.command.Limits.{Limits}
 use Rattle.script.specs.Digits.{value}
 use Rattle.script.specs.Faults.{Verb, turn, hear, show, rest, form, line_has, parts_have, standing, told, verb, words_have}
 use Rattle.script.specs.Parts.{content, words}
@@ -32,16 +33,16 @@ abbrev pub judged : {X : Type 0} → Option Cause → X → Result X Cause
 judged None x = Ok x
 judged (Some c) x = Err c
 
--- what is read, where there are n networks and b blocks: a command or a cause, and of an empty line nothing
-abbrev pub read_verb : ℕ → ℕ → Verb → List (List ℕ) → Result Command Cause
-read_verb n b v ws = judged (told (parts_have n b (form v) ws)) (asked v ws)
+-- what is read: a command or a cause, and of an empty line nothing
+abbrev pub read_verb : Limits → Verb → List (List ℕ) → Result Command Cause
+read_verb limits v ws = judged (told (parts_have limits (form v) ws)) (asked v ws)
 
-abbrev pub read_named : ℕ → ℕ → Option Verb → List (List ℕ) → Result Command Cause
-read_named n b None ws = Err UnknownWord
-read_named n b (Some v) ws = read_verb n b v ws
+abbrev pub read_named : Limits → Option Verb → List (List ℕ) → Result Command Cause
+read_named limits None ws = Err UnknownWord
+read_named limits (Some v) ws = read_verb limits v ws
 
-abbrev pub read_words : ℕ → ℕ → List (List ℕ) → Result (Option Command) Cause
-read_words n b ws = judged (told (words_have n b ws)) (meaning ws)
+abbrev pub read_words : Limits → List (List ℕ) → Result (Option Command) Cause
+read_words limits ws = judged (told (words_have limits ws)) (meaning ws)
 
-abbrev pub read_line : ℕ → ℕ → List ℕ → Result (Option Command) Cause
-read_line n b l = judged (told (line_has n b l)) (meaning (words (content l)))
+abbrev pub read_line : Limits → List ℕ → Result (Option Command) Cause
+read_line limits l = judged (told (line_has limits l)) (meaning (words (content l)))

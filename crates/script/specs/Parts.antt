@@ -1,7 +1,5 @@
 -- How the text of a script is cut: lines, what counts in a line, and words. Assumes nothing.
 use Rattle.std.specs.Prelude.{◌≡◌, ℕ, Bool, true, cond, not, ◌||◌, List, [], ◌∷◌, ◌==◌}
-use Rattle.script.specs.declared.cut.Stop.{Stop}
-use Rattle.script.specs.declared.cut.Stop.TheVariants.{Feed, Mark, Blank, Solid}
 
 -- a line feed
 abbrev pub is_feed : ℕ → Bool
@@ -18,11 +16,9 @@ is_blank b = b == 32 || b == 9 || b == 13
 abbrev pub is_solid : ℕ → Bool
 is_solid b = not (is_blank b)
 
-abbrev pub stops : Stop → ℕ → Bool
-stops Feed = is_feed
-stops Mark = is_mark
-stops Blank = is_blank
-stops Solid = is_solid
+-- whatever a call answers of a byte is what p says of it
+abbrev pub Computes : (ℕ → Bool → Type 0) → (ℕ → Bool) → Type 0
+Computes answers p = (b : ℕ) (r : Bool) → answers b r → r ≡ p b
 
 -- what stands before the first byte that passes a test, and the rest from that byte on
 unfoldable pub before : (ℕ → Bool) → List ℕ → List ℕ

@@ -2,6 +2,7 @@
 use Rattle.std.specs.Prelude.{ℕ, ◌<◌, cond, List, [], ◌∷◌, ◌++◌, codes, decimal}
 use Rattle.script.specs.declared.command.Command.{Command}
 use Rattle.script.specs.declared.command.Command.TheVariants.{Turn, Hear, Show, Rest}
+use Rattle.script.specs.declared.command.Limits.{Limits}
 
 abbrev pub said : Command → List (List ℕ)
 said (Turn i j up) = codes "turn" ∷ decimal i ∷ decimal j ∷ cond up (codes "up") (codes "down") ∷ []
@@ -19,17 +20,17 @@ abbrev pub written : Command → List ℕ
 written c = spaced (said c)
 
 -- the numbers are below those of networks and blocks
-abbrev pub Within : ℕ → ℕ → Command → Type 0
-Within n b (Turn i j up) = (i < n) × (j < n)
-Within n b (Hear i j) = (i < n) × (j < n)
-Within n b (Show block) = block < b
-Within n b Rest = Unit {0}
+abbrev pub Within : Limits → Command → Type 0
+Within limits (Turn i j up) = (i < limits.networks) × (j < limits.networks)
+Within limits (Hear i j) = (i < limits.networks) × (j < limits.networks)
+Within limits (Show block) = block < limits.blocks
+Within limits Rest = Unit {0}
 
 -- a line for each command
 abbrev pub all_written : List Command → List ℕ
 all_written [] = []
 all_written (c ∷ cs) = written c ++ (10 ∷ all_written cs)
 
-abbrev pub AllWithin : ℕ → ℕ → List Command → Type 0
-AllWithin n b [] = Unit {0}
-AllWithin n b (c ∷ cs) = Within n b c × AllWithin n b cs
+abbrev pub AllWithin : Limits → List Command → Type 0
+AllWithin limits [] = Unit {0}
+AllWithin limits (c ∷ cs) = Within limits c × AllWithin limits cs

@@ -1,58 +1,32 @@
 // Cutting text into lines and words.
-ghost use Rattle.std.specs.Prelude.{◌≡◌, [], ◌∷◌, MatchOption};
-ghost use Rattle.script.specs.Parts.{before, content as content_of, from, is_blank as blank, stops as stops_at, words};
-
-// Where a run of bytes stops.
-#[derive(Clone, Copy)]
-pub enum Stop {
-    // the feed that ends a line
-    Feed,
-    // the mark of a comment
-    Mark,
-    Blank,
-    // anything but a blank
-    Solid,
-}
+ghost use Rattle.std.specs.Prelude.{◌≡◌, ℕ, Bool, [], ◌∷◌, MatchOption};
+ghost use Rattle.script.specs.Parts.{Computes, before, content as content_of, from, is_blank as blank, words};
 
 // A space, a tab or a carriage return.
 pub(crate) fn is_blank(byte: u8) -> bool
     ensures { result ≡ blank byte }
 {
-    byte == b' ' || byte == b'\t' || byte == b'\r'
+    matches!(byte, b' ' | b'\t' | b'\r')
 }
 
-impl Stop {
-    // Whether to stop at a byte.
-    fn at(self, byte: u8) -> bool
-        ensures { result ≡ stops_at self byte }
-    {
-        match self {
-            Stop::Feed => byte == b'\n',
-            Stop::Mark => byte == b'#',
-            Stop::Blank => is_blank(byte),
-            Stop::Solid => !is_blank(byte),
-        }
-    }
-}
-
-// What stands before the first byte at which to stop, and the rest.
-pub(crate) fn cut(bytes: &[u8], stop: Stop) -> (&[u8], &[u8])
-    ensures front { result.0.now ≡ before (stops_at stop) bytes.now }
-    ensures back { result.1.now ≡ from (stops_at stop) bytes.now }
+// What stands before the first byte that passes a test, and the rest.
+pub(crate) fn cut<F: Fn(u8) -> bool>(bytes: &[u8], stop: F) -> (&[u8], &[u8])
+    requires { F.IsAlwaysCallable stop }
+    ensures front { (p : ℕ → Bool) → Computes (F.post stop) p → result.0.now ≡ before p bytes.now }
+    ensures back { (p : ℕ → Bool) → Computes (F.post stop) p → result.1.now ≡ from p bytes.now }
 {
-    for (n, byte) in bytes.iter().enumerate() {
-        if stop.at(*byte) {
-            return bytes.split_at(n);
-        }
-    }
-    bytes.split_at(bytes.len())
+    let end = bytes
+        .iter()
+        .position(|byte| stop(*byte))
+        .unwrap_or(bytes.len());
+    bytes.split_at(end)
 }
 
 // What counts in a line: all that stands before the mark of a comment.
 pub(crate) fn content(line: &[u8]) -> &[u8]
     ensures { result.now ≡ content_of line.now }
 {
-    let (content, _comment) = cut(line, Stop::Mark);
+    let (content, _comment) = cut(line, |byte| byte == b'#');
     content
 }
 
@@ -60,9 +34,9 @@ pub(crate) fn content(line: &[u8]) -> &[u8]
 pub(crate) fn split_word(bytes: &[u8]) -> Option<(&[u8], &[u8])>
     ensures { MatchOption result (words bytes.now ≡ []) (λ p. words bytes.now ≡ p.0.now ∷ words p.1.now) }
 {
-    let (_blanks, solid) = cut(bytes, Stop::Solid);
+    let (_blanks, solid) = cut(bytes, |byte| !is_blank(byte));
     if solid.is_empty() {
         return None;
     }
-    Some(cut(solid, Stop::Blank))
+    Some(cut(solid, is_blank))
 }

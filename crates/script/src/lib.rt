@@ -19,4 +19,4 @@ pub use laws::{
 };
 pub use naming::read_network;
 pub use script::Script;
-pub use wording::push_fault;
+pub use wording::LineFault;

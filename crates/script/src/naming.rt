@@ -1,22 +1,18 @@
 // Words that name a network.
-ghost use Rattle.std.specs.Prelude.{◌≡◌};
-ghost use Rattle.script.specs.Digits.{value};
+ghost use Rattle.std.specs.Prelude.{◌≡◌, Some};
 ghost use Rattle.script.specs.Networks.{below, network_named};
 
 use crate::cause::Cause;
 use crate::numbers::number;
 
-// Of some networks the one that a word of digits is the number of.
-fn numbered(word: &[u8], networks: u8) -> Result<u8, Cause>
-    ensures { result ≡ below networks (value word.now) }
+// Of some networks the one with a number.
+pub(crate) fn network(number: u16, networks: u8) -> Result<u8, Cause>
+    ensures { result ≡ below networks (Some number) }
 {
-    let Some(number) = number(word) else {
-        return Err(Cause::NotANumber);
-    };
-    if number >= u16::from(networks) {
-        return Err(Cause::NoSuchNetwork);
+    match u8::try_from(number) {
+        Ok(network) if network < networks => Ok(network),
+        _ => Err(Cause::NoSuchNetwork),
     }
-    Ok(number as u8)
 }
 
 // Of some networks the one that a word is the number of.
@@ -26,5 +22,5 @@ pub fn read_network(word: &[u8], networks: u8) -> Result<u8, Cause>
     if word.is_empty() {
         return Err(Cause::NotANumber);
     }
-    numbered(word, networks)
+    network(number(word)?, networks)
 }

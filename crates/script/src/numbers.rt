@@ -1,18 +1,10 @@
 // Numbers in a script: words of digits.
-ghost use Rattle.std.specs.Prelude.{◌≡◌, ◌+◌, ◌-◌, ◌*◌, min, if◌then◌else◌, Some, None};
-ghost use Rattle.std.specs.Option.{option_map};
-ghost use Rattle.script.specs.Digits.{capped, is_digit, value as value_of};
+ghost use Rattle.std.specs.Prelude.{◌≡◌, ◌+◌, ◌*◌, min};
+ghost use Rattle.std.specs.Option.{ok_or, option_map};
+ghost use Rattle.script.specs.declared.cause.Cause.TheVariants.{NotANumber};
+ghost use Rattle.script.specs.Digits.{capped, value as value_of};
 
-// The number that a digit is.
-fn digit(byte: u8) -> Option<u8>
-    ensures { result ≡ (if is_digit byte then Some (byte - 48) else None) }
-{
-    if byte >= b'0' && byte <= b'9' {
-        Some(byte - b'0')
-    } else {
-        None
-    }
-}
+use crate::cause::Cause;
 
 // A number with one digit more, or 65535 where it is more.
 fn with_digit(number: u16, digit: u8) -> u16
@@ -22,15 +14,15 @@ fn with_digit(number: u16, digit: u8) -> u16
 }
 
 // The number that a word of digits is; 65535 stands for all from there on. No limit is above it.
-pub(crate) fn number(word: &[u8]) -> Option<u16>
-    ensures { result ≡ option_map capped (value_of word.now) }
+pub(crate) fn number(word: &[u8]) -> Result<u16, Cause>
+    ensures { result ≡ ok_or (option_map capped (value_of word.now)) NotANumber }
 {
     let mut number = 0;
     for byte in word {
-        let Some(digit) = digit(*byte) else {
-            return None;
-        };
-        number = with_digit(number, digit);
+        if !byte.is_ascii_digit() {
+            return Err(Cause::NotANumber);
+        }
+        number = with_digit(number, *byte - b'0');
     }
-    Some(number)
+    Ok(number)
 }

@@ -1,35 +1,33 @@
 // Reading one line.
 ghost use Rattle.std.specs.Prelude.{◌≡◌, [], ◌∷◌, Some, None, MatchResult, ◌≢◌};
-ghost use Rattle.std.specs.Str.{bytes_eq};
-ghost use Rattle.script.specs.declared.cause.Cause.TheVariants.{SurplusWord};
+ghost use Rattle.script.specs.declared.cause.Cause.TheVariants.{MissingWord, SurplusWord, UnknownWord};
 ghost use Rattle.script.specs.Digits.{value};
-ghost use Rattle.script.specs.Faults.{hear, is_plain as plain_byte, network, parts_have, plain, rest as rest_verb, show, standing, told, turn, verb};
+ghost use Rattle.script.specs.Faults.{hear, is_plain as plain_byte, network as network_part, parts_have, plain, show, standing, told, turn, verb};
 ghost use Rattle.script.specs.Meaning.{read_line as line_says, read_named as named_says, read_verb, read_words as words_say};
 ghost use Rattle.script.specs.Parts.{words};
 
 use crate::cause::Cause;
 use crate::command::{Command, Limits};
 use crate::cut::{content, is_blank, split_word};
+use crate::naming::network;
 use crate::numbers::number;
 
-// Whether a word is the one that is given.
-fn is(word: &[u8], given: &str) -> bool
-    ensures { result ≡ bytes_eq word.now given.now }
+// Whether a link is said to be up, or down.
+fn standing_of(word: &[u8]) -> Result<bool, Cause>
+    ensures { MatchResult result (λ up. standing word.now ≡ Some up) (λ c. (c ≡ UnknownWord) × (standing word.now ≡ None)) }
 {
-    word == given.as_bytes()
+    match word {
+        b"up" => Ok(true),
+        b"down" => Ok(false),
+        _ => Err(Cause::UnknownWord),
+    }
 }
 
-// Whether a link is said to be up, or down.
-fn standing_of(word: &[u8]) -> Option<bool>
-    ensures { result ≡ standing word.now }
+// A word that has to be there, and what follows it.
+fn next_word(rest: &[u8]) -> Result<(&[u8], &[u8]), Cause>
+    ensures { MatchResult result (λ p. words rest.now ≡ p.0.now ∷ words p.1.now) (λ c. (c ≡ MissingWord) × (words rest.now ≡ [])) }
 {
-    if is(word, "up") {
-        Some(true)
-    } else if is(word, "down") {
-        Some(false)
-    } else {
-        None
-    }
+    split_word(rest).ok_or(Cause::MissingWord)
 }
 
 // No word is left.
@@ -44,37 +42,23 @@ fn no_more(rest: &[u8]) -> Result<(), Cause>
 
 // The numbers of two networks.
 fn pair(first: &[u8], second: &[u8], limits: Limits) -> Result<(u8, u8), Cause>
-    ensures { MatchResult result (λ p. (told (parts_have limits.networks limits.blocks (network ∷ network ∷ []) (first.now ∷ second.now ∷ [])) ≡ None) × (value first.now ≡ Some p.0) × (value second.now ≡ Some p.1)) (λ c. told (parts_have limits.networks limits.blocks (network ∷ network ∷ []) (first.now ∷ second.now ∷ [])) ≡ Some c) }
+    ensures { MatchResult result (λ p. (told (parts_have limits (network_part ∷ network_part ∷ []) (first.now ∷ second.now ∷ [])) ≡ None) × (value first.now ≡ Some p.0) × (value second.now ≡ Some p.1)) (λ c. told (parts_have limits (network_part ∷ network_part ∷ []) (first.now ∷ second.now ∷ [])) ≡ Some c) }
 {
-    let Some(first) = number(first) else {
-        return Err(Cause::NotANumber);
-    };
-    let Some(second) = number(second) else {
-        return Err(Cause::NotANumber);
-    };
-    let networks = u16::from(limits.networks);
-    if first >= networks || second >= networks {
-        return Err(Cause::NoSuchNetwork);
-    }
-    Ok((first as u8, second as u8))
+    let first = number(first)?;
+    let second = number(second)?;
+    let first = network(first, limits.networks)?;
+    let second = network(second, limits.networks)?;
+    Ok((first, second))
 }
 
 // `turn I J up` or `turn I J down`, behind the first word.
 fn read_turn(rest: &[u8], limits: Limits) -> Result<Command, Cause>
-    ensures { result ≡ read_verb limits.networks limits.blocks turn (words rest.now) }
+    ensures { result ≡ read_verb limits turn (words rest.now) }
 {
-    let Some((first, rest)) = split_word(rest) else {
-        return Err(Cause::MissingWord);
-    };
-    let Some((second, rest)) = split_word(rest) else {
-        return Err(Cause::MissingWord);
-    };
-    let Some((standing, rest)) = split_word(rest) else {
-        return Err(Cause::MissingWord);
-    };
-    let Some(up) = standing_of(standing) else {
-        return Err(Cause::UnknownWord);
-    };
+    let (first, rest) = next_word(rest)?;
+    let (second, rest) = next_word(rest)?;
+    let (standing, rest) = next_word(rest)?;
+    let up = standing_of(standing)?;
     no_more(rest)?;
     let (first, second) = pair(first, second, limits)?;
     Ok(Command::Turn { first, second, up })
@@ -82,14 +66,10 @@ fn read_turn(rest: &[u8], limits: Limits) -> Result<Command, Cause>
 
 // `hear I J`, behind the first word.
 fn read_hear(rest: &[u8], limits: Limits) -> Result<Command, Cause>
-    ensures { result ≡ read_verb limits.networks limits.blocks hear (words rest.now) }
+    ensures { result ≡ read_verb limits hear (words rest.now) }
 {
-    let Some((from, rest)) = split_word(rest) else {
-        return Err(Cause::MissingWord);
-    };
-    let Some((to, rest)) = split_word(rest) else {
-        return Err(Cause::MissingWord);
-    };
+    let (from, rest) = next_word(rest)?;
+    let (to, rest) = next_word(rest)?;
     no_more(rest)?;
     let (from, to) = pair(from, to, limits)?;
     Ok(Command::Hear { from, to })
@@ -97,79 +77,60 @@ fn read_hear(rest: &[u8], limits: Limits) -> Result<Command, Cause>
 
 // `show B`, behind the first word.
 fn read_show(rest: &[u8], limits: Limits) -> Result<Command, Cause>
-    ensures { result ≡ read_verb limits.networks limits.blocks show (words rest.now) }
+    ensures { result ≡ read_verb limits show (words rest.now) }
 {
-    let Some((block, rest)) = split_word(rest) else {
-        return Err(Cause::MissingWord);
-    };
+    let (block, rest) = next_word(rest)?;
     no_more(rest)?;
-    let Some(block) = number(block) else {
-        return Err(Cause::NotANumber);
-    };
+    let block = number(block)?;
     if block >= limits.blocks {
         return Err(Cause::NoSuchBlock);
     }
     Ok(Command::Show { block })
 }
 
-// `rest`, behind the first word.
-fn read_rest(left: &[u8], limits: Limits) -> Result<Command, Cause>
-    ensures { result ≡ read_verb limits.networks limits.blocks rest_verb (words left.now) }
-{
-    no_more(left)?;
-    Ok(Command::Rest)
-}
-
 // The command of a first word and the rest.
 fn read_named(name: &[u8], rest: &[u8], limits: Limits) -> Result<Command, Cause>
-    ensures { result ≡ named_says limits.networks limits.blocks (verb name.now) (words rest.now) }
+    ensures { result ≡ named_says limits (verb name.now) (words rest.now) }
 {
-    if is(name, "turn") {
-        read_turn(rest, limits)
-    } else if is(name, "hear") {
-        read_hear(rest, limits)
-    } else if is(name, "show") {
-        read_show(rest, limits)
-    } else if is(name, "rest") {
-        read_rest(rest, limits)
-    } else {
-        Err(Cause::UnknownWord)
+    match name {
+        b"turn" => read_turn(rest, limits),
+        b"hear" => read_hear(rest, limits),
+        b"show" => read_show(rest, limits),
+        b"rest" => {
+            no_more(rest)?;
+            Ok(Command::Rest)
+        }
+        _ => Err(Cause::UnknownWord),
     }
 }
 
 // The command that the words ask for; without a word, none.
 fn read_words(content: &[u8], limits: Limits) -> Result<Option<Command>, Cause>
-    ensures { result ≡ words_say limits.networks limits.blocks (words content.now) }
+    ensures { result ≡ words_say limits (words content.now) }
 {
     let Some((name, rest)) = split_word(content) else {
         return Ok(None);
     };
-    let command = read_named(name, rest, limits)?;
-    Ok(Some(command))
+    read_named(name, rest, limits).map(Some)
 }
 
 // Blank or printable.
 fn is_plain(byte: u8) -> bool
     ensures { result ≡ plain_byte byte }
 {
-    is_blank(byte) || byte > b' ' && byte <= b'~'
+    is_blank(byte) || byte.is_ascii_graphic()
 }
 
 // Whether every byte is blank or printable.
 fn all_plain(content: &[u8]) -> bool
     ensures { result ≡ plain content.now }
 {
-    for byte in content {
-        if !is_plain(*byte) {
-            return false;
-        }
-    }
-    true
+    content.iter().all(|byte| is_plain(*byte))
 }
 
 // The command of a line; of an empty line, none.
 pub(crate) fn read_line(line: &[u8], limits: Limits) -> Result<Option<Command>, Cause>
-    ensures { result ≡ line_says limits.networks limits.blocks line.now }
+    ensures { result ≡ line_says limits line.now }
 {
     let content = content(line);
     if !all_plain(content) {

@@ -1,10 +1,11 @@
 // A faulty line in words.
-ghost use Rattle.std.specs.Prelude.{◌≡◌, ◌++◌, string_bytes, OnOk};
+ghost use Rattle.std.specs.Prelude.{◌≡◌, Some, option_map};
 ghost use Rattle.script.specs.Faults.{number as number_of};
 ghost use Rattle.script.specs.Words.{cause_words, fault_words};
 
 use crate::cause::Cause;
-use std::alloc::AllocError;
+use std::error::Error;
+use std::fmt;
 
 impl Cause {
     // The number of the fault.
@@ -37,9 +38,32 @@ impl Cause {
     }
 }
 
-// Appends what is told of a faulty line, as `fault 6 at line 3: nothing is in flight`. Only want of memory is an error.
-pub fn push_fault(out: &mut String, number: u8, line: usize, text: &str) -> Result<(), AllocError>
-    ensures { OnOk result (string_bytes out.new ≡ string_bytes out.old ++ fault_words number line text.now) }
-{
-    write!(out, "fault {number} at line {line}: {text}")
+impl fmt::Display for Cause {
+    ghost output = { λ cause. Some (cause_words cause) };
+
+    fn fmt<W: fmt::Write>(&self, f: &mut fmt::Formatter<W>) -> fmt::Result {
+        f.write_str(self.text())
+    }
+}
+
+impl Error for Cause {}
+
+// What is told of a faulty line, as `fault 6 at line 3: nothing is in flight`.
+#[derive(Clone, Copy, Debug)]
+pub struct LineFault<C> {
+    pub number: u8,
+    pub line: usize,
+    pub cause: C,
+}
+
+impl<C: fmt::Display> fmt::Display for LineFault<C> {
+    ghost output = { λ fault. option_map (fault_words fault.number fault.line) (C.output fault.cause) };
+
+    fn fmt<W: fmt::Write>(&self, f: &mut fmt::Formatter<W>) -> fmt::Result {
+        write!(
+            f,
+            "fault {} at line {}: {}",
+            self.number, self.line, self.cause
+        )
+    }
 }

@@ -1,7 +1,6 @@
 -- The best of the candidates, network by network. Assumes nothing.
-use Rattle.std.proofs.Common.{◌≡◌, ℕ, zero, suc, ◌+◌, ◌<◌, ◌≤◌, true, false, cond, ◌&&◌, ◌||◌, eqb, ltb, List, [], ◌∷◌, get_or, Some, None, Option, sym, refl, ap, ◌∙◌, subst, add-one, arith, Bor}
+use Rattle.std.proofs.Common.{◌≡◌, ℕ, zero, suc, ◌+◌, ◌<◌, true, false, cond, List, Some, None, Option, sym, refl, ap, ◌∙◌, subst, add-one, arith, Bor}
 use Rattle.std.proofs.lemmas.Bool.{cond_both, cond-true, cond-false}
-use Rattle.std.proofs.lemmas.Bool.Decides.{nat_tests}
 use Rattle.selection.specs.Choosing.{Choice, nothing, local, via, Order, better, best, meaning}
 use Rattle.selection.specs.declared.route.Route.{Route}
 use Rattle.selection.specs.declared.route.Route.TheVariants.{Nothing, Local, Via}
@@ -56,29 +55,3 @@ module _ (first : Order) (says : ℕ → Option (List ℕ)) (r : Route) (j : ℕ
 
       pub other : (k ≡ j → ⊥)
       other e = let h = held first says j k q.now (sym so_far ∙ ap meaning was) in omega arith
-
--- three keys decide by the first difference
-module _ (ra la na rb lb nb : ℕ) (xs ys : List ℕ) (ex : xs ≡ ra ∷ la ∷ na ∷ []) (ey : ys ≡ rb ∷ lb ∷ nb ∷ []) where
-  r_at : (get_or xs 0 0 ≡ ra) × (get_or ys 0 0 ≡ rb)
-  r_at = (ap (λ l. get_or l 0 0) ex, ap (λ l. get_or l 0 0) ey)
-
-  l_at : (get_or xs 1 0 ≡ la) × (get_or ys 1 0 ≡ lb)
-  l_at = (ap (λ l. get_or l 1 0) ex, ap (λ l. get_or l 1 0) ey)
-
-  n_at : (get_or xs 2 0 ≡ na) × (get_or ys 2 0 ≡ nb)
-  n_at = (ap (λ l. get_or l 2 0) ex, ap (λ l. get_or l 2 0) ey)
-
-  pub worse_at : (k : ℕ) → k < 3 → ((i : ℕ) → i < k → get_or xs i 0 ≡ get_or ys i 0) → get_or ys k 0 < get_or xs k 0 → (ltb ra rb || (eqb ra rb && (ltb la lb || (eqb la lb && ltb na nb)))) ≡ false
-  worse_at zero l e h = let a = r_at in grind (arith, nat_tests, a.0, a.1)
-  worse_at (suc zero) l e h = let a = r_at in let b = l_at in let f = e 0 (omega arith) in grind (arith, nat_tests, a.0, a.1, b.0, b.1)
-  worse_at (suc (suc zero)) l e h = let a = r_at in let b = l_at in let c = n_at in let f = e 0 (omega arith) in let g = e 1 (omega arith) in grind (arith, nat_tests, a.0, a.1, b.0, b.1, c.0, c.1)
-  worse_at (suc (suc (suc k))) l e h = absurd (omega arith)
-
-  pub better_at : (k : ℕ) → k < 3 → ((i : ℕ) → i < k → get_or xs i 0 ≡ get_or ys i 0) → get_or xs k 0 < get_or ys k 0 → (ltb ra rb || (eqb ra rb && (ltb la lb || (eqb la lb && ltb na nb)))) ≡ true
-  better_at zero l e h = let a = r_at in grind (arith, nat_tests, a.0, a.1)
-  better_at (suc zero) l e h = let a = r_at in let b = l_at in let f = e 0 (omega arith) in grind (arith, nat_tests, a.0, a.1, b.0, b.1)
-  better_at (suc (suc zero)) l e h = let a = r_at in let b = l_at in let c = n_at in let f = e 0 (omega arith) in let g = e 1 (omega arith) in grind (arith, nat_tests, a.0, a.1, b.0, b.1, c.0, c.1)
-  better_at (suc (suc (suc k))) l e h = absurd (omega arith)
-
-  pub same_number : (k : ℕ) → 3 ≤ k → ((i : ℕ) → i < k → get_or xs i 0 ≡ get_or ys i 0) → nb ≡ na
-  same_number k l e = let c = n_at in let f = e 2 (omega arith) in omega arith

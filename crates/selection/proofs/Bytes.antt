@@ -1,9 +1,17 @@
 -- Tables whose rows say the same hold the same bytes. Assumes nothing.
-use Rattle.std.proofs.Common.{◌≡◌, ℕ, ◌+◌, ◌*◌, ◌/◌, ◌%◌, ◌<◌, cond, ◌&&◌, eqb, ltb, List, length, get_or, take, drop, Some, None, Option, sym, ap, ◌∙◌, ⊎_elim, arith, length-drop, length-take}
-use Rattle.std.proofs.lemmas.List.{ext_get_or, get_or-drop, get_or-take, nil_from_length}
-use Rattle.std.proofs.lemmas.Bool.{and_from, cases_eq, cases_lt, cond-false, cond-true, eq-eqb, lt-ltb, ne_eqb}
+use Rattle.std.proofs.Common.{◌≡◌, ℕ, suc, ◌≤◌, cond, eqb, List, [], ◌∷◌, length, get_or, take, Some, None, option_and_then, sym, refl, ap, ◌∙◌, ⊎_elim, arith}
+use Rattle.std.specs.List.{slice_get}
+use Rattle.std.proofs.Math.Bridge.{le_prop}
+use Rattle.std.proofs.Math.Nat.{ℕ_set}
+use Rattle.std.proofs.lemmas.List.{ext_get_or, get_or-take, nil_from_length}
+use Rattle.std.proofs.lemmas.Bool.{cases_eq, cases_lt, cond-false, cond-true, eq-eqb, ne_eqb}
+use Rattle.std.proofs.lemmas.Option.{none-some, same_Some}
+use Rattle.selection.proofs.Lengths.{length_path}
 use Rattle.selection.specs.Laws.{SameBytes}
-use Rattle.selection.specs.Rows.{Short, rows, said, told}
+use Rattle.selection.specs.Paths.{path_of, row_at}
+use Rattle.selection.specs.Rows.{Full, Padded, Wide, said}
+use Rattle.selection.specs.declared.table.row.Row.{Row}
+use mathlib.Core.HLevel.{is_prop→PathP}
 
 said_nothing : (p : List ℕ) → length p ≡ 0 → said p ≡ None
 said_nothing p e = cond-true (eqb (length p) 0) None (Some p) (eq-eqb (length p) 0 e)
@@ -11,55 +19,50 @@ said_nothing p e = cond-true (eqb (length p) 0) None (Some p) (eq-eqb (length p)
 said_path : (p : List ℕ) → (length p ≡ 0 → ⊥) → said p ≡ Some p
 said_path p ne = cond-false (eqb (length p) 0) None (Some p) (ne_eqb (length p) 0 ne)
 
-never : {X : Type 0} (o : Option (List ℕ)) (p : List ℕ) → o ≡ None → o ≡ Some p → X
-never o p e f = absurd (let z : ◌≡◌ {A = ℕ} 0 1 = cc in omega arith)
-
 same_said : (p q : List ℕ) → said p ≡ said q → p ≡ q
 same_said p q e =
     ⊎_elim
-    (λ a. ⊎_elim (λ b. nil_from_length p a ∙ sym (nil_from_length q b)) (λ b. never (said p) q (said_nothing p a) (e ∙ said_path q b)) (cases_eq (length q) 0))
-    (λ a. ⊎_elim (λ b. never (said p) p (e ∙ said_nothing q b) (said_path p a)) (λ b. let f = said_path p a in let g = said_path q b in cc) (cases_eq (length q) 0))
+    (λ a. ⊎_elim (λ b. nil_from_length p a ∙ sym (nil_from_length q b)) (λ b. absurd (none-some q (sym (said_nothing p a) ∙ e ∙ said_path q b))) (cases_eq (length q) 0))
+    (λ a. ⊎_elim (λ b. absurd (none-some p (sym (said_nothing q b) ∙ sym e ∙ said_path p a))) (λ b. same_Some p q (sym (said_path p a) ∙ e ∙ said_path q b)) (cases_eq (length q) 0))
     (cases_eq (length p) 0)
 
--- a path of a row, and that it is all that the row says
-module _ (n : ℕ) (lengths cells : List ℕ) (roomy : length cells ≡ n * 4096) (short : Short lengths) where
-  abbrev path : ℕ → List ℕ
-  path r = take (get_or lengths r 0) (drop (r * 64) cells)
+same_row : (r s : Row) → path_of r ≡ path_of s → r ≡ s
+same_row r s e =
+    λ i. record {
+      length = size i;
+      networks = networks i;
+      full = is_prop→PathP (λ k. Full (networks k)) (λ k. ℕ_set (length (networks k)) 64) r.full s.full i;
+      short = is_prop→PathP (λ k. size k ≤ 64) (λ k. le_prop) r.short s.short i;
+      padded = is_prop→PathP (λ k. Padded (size k) (networks k)) (λ k p q l j h. ℕ_set (get_or (networks k) j 0) 0 (p j h) (q j h) l) r.padded s.padded i;
+    }
+  where
+    path : take r.length r.networks ≡ take s.length s.networks
+    path = same_said _ _ (ap (λ l. cond (eqb l 0) None (Some (take r.length r.networks))) (length_path r) ∙ e ∙ sym (ap (λ l. cond (eqb l 0) None (Some (take s.length s.networks))) (length_path s)))
 
-  length_path : (r : ℕ) → r < n * 64 → length (path r) ≡ get_or lengths r 0
-  length_path r h = let s = short r in simp (length-take, length-drop) (omega arith)
+    size : r.length ≡ s.length
+    size = sym (length_path r) ∙ ap length path ∙ length_path s
 
-  row_said : (r : ℕ) → r < n * 64 → rows n lengths cells (r / 64) (r % 64) ≡ said (path r)
-  row_said r h =
-      let e : r / 64 * 64 + r % 64 ≡ r = omega arith in
-      cond-true (ltb (r / 64) n && ltb (r % 64) 64) (told lengths cells (r / 64 * 64 + r % 64)) None (and_from (ltb (r / 64) n) (ltb (r % 64) 64) (lt-ltb (r / 64) n (omega arith)) (lt-ltb (r % 64) 64 (omega arith))) ∙
-      ap (told lengths cells) e ∙
-      ap (λ l. cond (eqb l 0) None (Some (path r))) (sym (length_path r h))
+    networks : r.networks ≡ s.networks
+    networks =
+        ext_get_or 0 r.networks s.networks (r.full ∙ sym s.full)
+        (λ k _. ⊎_elim
+        (λ h. sym (get_or-take r.length r.networks k 0 h) ∙ ap (λ p. get_or p k 0) path ∙ get_or-take s.length s.networks k 0 (let z = size in omega arith))
+        (λ h. r.padded k h ∙ sym (s.padded k (let z = size in omega arith)))
+        (cases_lt k r.length))
 
-  cell_at : (q : ℕ) → q % 64 < get_or lengths (q / 64) 0 → get_or cells q 0 ≡ get_or (path (q / 64)) (q % 64) 0
-  cell_at q l =
-      let e : q ≡ q / 64 * 64 + q % 64 = omega arith in
-      ap (λ z. get_or cells z 0) e ∙ sym (get_or-take (get_or lengths (q / 64) 0) (drop (q / 64 * 64) cells) (q % 64) 0 l ∙ get_or-drop (q / 64 * 64) cells (q % 64) 0)
+same_rows : (xs ys : List Row) → length xs ≡ length ys → ((j : ℕ) → option_and_then path_of (slice_get xs j) ≡ option_and_then path_of (slice_get ys j)) → xs ≡ ys
+same_rows [] [] e h = refl
+same_rows [] (y ∷ ys) e h = absurd (omega arith)
+same_rows (x ∷ xs) [] e h = absurd (omega arith)
+same_rows (x ∷ xs) (y ∷ ys) e h = λ i. same_row x y (h 0) i ∷ same_rows xs ys (omega arith) (λ j. h (suc j)) i
+
+same_blocks : (xs ys : List (List Row)) → length xs ≡ length ys → Wide xs → Wide ys → ((b j : ℕ) → option_and_then path_of (row_at xs b j) ≡ option_and_then path_of (row_at ys b j)) → xs ≡ ys
+same_blocks [] [] e wx wy h = refl
+same_blocks [] (y ∷ ys) e wx wy h = absurd (omega arith)
+same_blocks (x ∷ xs) [] e wx wy h = absurd (omega arith)
+same_blocks (x ∷ xs) (y ∷ ys) e wx wy h =
+    λ i. same_rows x y (wx 0 (omega arith) ∙ sym (wy 0 (omega arith))) (λ j. h 0 j) i ∷
+    same_blocks xs ys (omega arith) (λ b l. wx (suc b) (omega arith)) (λ b l. wy (suc b) (omega arith)) (λ b j. h (suc b) j) i
 
 pub same_bytes : SameBytes
-same_bytes t u e same =
-    let n = t.blocks in
-    let rt : length t.cells.items ≡ n * 4096 = sym t.cells.ok.0 ∙ t.roomy in
-    let ru : length u.cells.items ≡ n * 4096 = sym u.cells.ok.0 ∙ u.roomy ∙ ap (λ m. m * 4096) (sym e) in
-    let st : length t.lengths.items ≡ n * 64 = sym t.lengths.ok.0 ∙ t.sized in
-    let su : length u.lengths.items ≡ n * 64 = sym u.lengths.ok.0 ∙ u.sized ∙ ap (λ m. m * 64) (sym e) in
-    let rows_same : (b j : ℕ) → rows n t.lengths.items t.cells.items b j ≡ rows n u.lengths.items u.cells.items b j =
-    λ b j. same b j ∙ ap (λ m. rows m u.lengths.items u.cells.items b j) (sym e) in
-    let paths : (r : ℕ) → r < n * 64 → path n t.lengths.items t.cells.items rt t.short r ≡ path n u.lengths.items u.cells.items ru u.short r =
-    λ r h. same_said _ _ (sym (row_said n t.lengths.items t.cells.items rt t.short r h) ∙ rows_same (r / 64) (r % 64) ∙ row_said n u.lengths.items u.cells.items ru u.short r h) in
-    let lengths : (r : ℕ) → r < n * 64 → get_or t.lengths.items r 0 ≡ get_or u.lengths.items r 0 =
-    λ r h. sym (length_path n t.lengths.items t.cells.items rt t.short r h) ∙ ap length (paths r h) ∙ length_path n u.lengths.items u.cells.items ru u.short r h in (
-      ext_get_or 0 t.lengths.items u.lengths.items (st ∙ sym su) (λ r h. lengths r (omega arith)),
-      ext_get_or 0 t.cells.items u.cells.items (rt ∙ sym ru)
-          (λ q h.
-          let a = lengths (q / 64) (omega arith) in
-          ⊎_elim
-          (λ l. cell_at n t.lengths.items t.cells.items rt t.short q l ∙ ap (λ p. get_or p (q % 64) 0) (paths (q / 64) (omega arith)) ∙ sym (cell_at n u.lengths.items u.cells.items ru u.short q (omega arith)))
-          (λ l. t.padded q l ∙ sym (u.padded q (omega arith)))
-          (cases_lt (q % 64) (get_or t.lengths.items (q / 64) 0))),
-    )
+same_bytes t u e same = same_blocks t.blocks.items u.blocks.items (sym t.blocks.ok.0 ∙ e ∙ u.blocks.ok.0) t.wide u.wide same

@@ -1,30 +1,25 @@
 -- How long the paths in a table are. Assumes nothing.
-use Rattle.std.proofs.Common.{◌≡◌, ℕ, ◌+◌, ◌-◌, ◌*◌, ◌<◌, ◌≤◌, min, Bool, true, false, cond, ◌&&◌, eqb, ltb, List, length, get_or, take, drop, Some, None, sym, refl, ap, ◌∙◌, arith, length-drop, length-take}
-use Rattle.std.proofs.lemmas.Bool.{and_parts, eqb-false, ltb-true}
-use Rattle.selection.specs.Paths.{row}
+use Rattle.std.proofs.Common.{◌≡◌, ℕ, ◌<◌, ◌≤◌, eqb, List, length, take, Some, None, sym, ap, ◌∙◌, ⊎_elim, arith, length-take}
+use Rattle.std.proofs.lemmas.Bool.{cases_eq, cond-false, cond-true, eq-eqb, ne_eqb}
+use Rattle.std.proofs.lemmas.Option.{none-some, option_and_then_some, same_Some}
+use Rattle.selection.specs.Paths.{path_of, row, row_at}
 use Rattle.selection.specs.declared.table.PathTable.{PathTable}
+use Rattle.selection.specs.declared.table.row.Row.{Row}
 
-never : {X : Type 0} (p : List ℕ) → Some p ≡ None → X
-never p e = absurd (let z : ◌≡◌ {A = ℕ} 0 1 = cc in omega arith)
+-- the path of a row is as long as the row says
+pub length_path : (r : Row) → length (take r.length r.networks) ≡ r.length
+length_path r = let full = r.full in let short = r.short in simp length-take (omega arith)
 
-there : (a b : Bool) (x p : List ℕ) → Some p ≡ cond a (cond b None (Some x)) None → (a ≡ true) × (b ≡ false) × (p ≡ x)
-there true true x p e = never p e
-there true false x p e = (refl, refl, cc)
-there false b x p e = never p e
+path_length : (r : Row) (p : List ℕ) → path_of r ≡ Some p → (0 < length p) × (length p ≤ 64)
+path_length r p e =
+    ⊎_elim
+    (λ z. absurd (none-some p (sym (cond-true (eqb r.length 0) None (Some (take r.length r.networks)) (eq-eqb r.length 0 z)) ∙ e)))
+    (λ ne.
+    let same = same_Some (take r.length r.networks) p (sym (cond-false (eqb r.length 0) None (Some (take r.length r.networks)) (ne_eqb r.length 0 ne)) ∙ e) in
+    let n : length p ≡ r.length = sym (ap length same) ∙ length_path r in
+    let short = r.short in (omega arith, omega arith))
+    (cases_eq r.length 0)
 
 -- a path that stands in a table has 1 to 64 networks
 pub row_length : (t : PathTable) (b j : ℕ) (p : List ℕ) → Some p ≡ row t b j → (0 < length p) × (length p ≤ 64)
-row_length t b j p e =
-    let r = b * 64 + j in
-    let ls = t.lengths.items in
-    let cs = t.cells.items in
-    let h = there (ltb b t.blocks && ltb j 64) (eqb (get_or ls r 0) 0) (take (get_or ls r 0) (drop (r * 64) cs)) p e in
-    let at = and_parts (ltb b t.blocks) (ltb j 64) h.0 in
-    let hb = ltb-true b t.blocks at.0 in
-    let hj = ltb-true j 64 at.1 in
-    let some = eqb-false (get_or ls r 0) 0 h.1 in
-    let s = t.short r in
-    let roomy : length cs ≡ t.blocks * 4096 = sym t.cells.ok.0 ∙ t.roomy in
-    let n : length (take (get_or ls r 0) (drop (r * 64) cs)) ≡ min (get_or ls r 0) (length cs - r * 64) = simp (length-take, length-drop) in
-    let m : length p ≡ get_or ls r 0 = ap length h.2 ∙ n ∙ omega arith in
-    (omega arith, omega arith)
+row_length t b j p e = option_and_then_some path_of (row_at t.blocks.items b j) p (sym e) (λ r _ h. path_length r p h)

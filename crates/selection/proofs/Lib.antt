@@ -1,7 +1,8 @@
 pub mod Best
 mod Bytes
-mod Cells
 pub mod Chosen
+mod Compared
 pub mod Lengths
-mod Passing
+pub mod Past
 pub mod Ranks
+mod Written

@@ -70,6 +70,6 @@ selected within r up received me block home = choose within (relation r me) (λ 
 abbrev pub CustomersDecide : Type 0
 CustomersDecide = (within : Order) (r : Relations) (up up' : List Bool) (received received' : PathTable) (me block home : ℕ) → ((j : ℕ) → relation r me j ≡ Customer → row received block j ≡ row received' block j) → ((j : ℕ) → relation r me j ≡ Customer → slice_index_or up j false ≡ slice_index_or up' j false) → ((j : ℕ) × (p : List ℕ) × (relation r me j ≡ Customer) × (selected within r up received me block home ≡ via j p) × (selected within r up' received' me block home ≡ via j p)) ⊎ (NoCustomer (relation r me) (selected within r up received me block home) × NoCustomer (relation r me) (selected within r up' received' me block home))
 
--- tables whose rows say the same hold the same bytes
+-- tables whose rows say the same hold the same bytes, those past a row's path too
 abbrev pub SameBytes : Type 0
-SameBytes = (t u : PathTable) → count t ≡ count u → ((b j : ℕ) → row t b j ≡ row u b j) → (vec_items t.lengths ≡ vec_items u.lengths) × (vec_items t.cells ≡ vec_items u.cells)
+SameBytes = (t u : PathTable) → count t ≡ count u → ((b j : ℕ) → row t b j ≡ row u b j) → vec_items t.blocks ≡ vec_items u.blocks

@@ -1,4 +1,5 @@
 pub mod Rows
 pub mod Paths
 pub mod Choosing
+pub mod Nodes
 pub mod Laws

@@ -1,24 +1,25 @@
--- Rows of paths in two lists: the lengths, and 64 places a row. Assumes nothing.
-use Rattle.std.specs.Prelude.{◌≡◌, ℕ, ◌+◌, ◌*◌, ◌/◌, ◌%◌, ◌≤◌, cond, ◌&&◌, List, length, take, drop, Some, None, Option, ◌==◌, nat_lt, slice_index}
+-- Rows of paths: what one says, and all of them, by block and neighbour. Assumes nothing.
+use Rattle.std.specs.Prelude.{◌≡◌, ℕ, ◌<◌, ◌≤◌, cond, ◌&&◌, List, [], length, take, Some, None, Option, ◌==◌, slice_index, slice_index_or}
 
--- no path is above 64
-abbrev pub Short : List ℕ → Type 0
-Short lengths = (r : ℕ) → slice_index lengths r ≤ 64
+-- each block has 64 rows
+abbrev pub Wide : {X : Type 0} → List (List X) → Type 0
+Wide blocks = (b : ℕ) → b < length blocks → length (slice_index_or blocks b []) ≡ 64
+
+-- a row has 64 places
+abbrev pub Full : List ℕ → Type 0
+Full networks = length networks ≡ 64
 
 -- a row is zero past its path
-abbrev pub Padded : List ℕ → List ℕ → Type 0
-Padded lengths cells = (q : ℕ) → slice_index lengths (q / 64) ≤ q % 64 → slice_index cells q ≡ 0
+abbrev pub Padded : ℕ → List ℕ → Type 0
+Padded size networks = (k : ℕ) → size ≤ k → slice_index networks k ≡ 0
 
--- the path of row r
-abbrev pub told : List ℕ → List ℕ → ℕ → Option (List ℕ)
-told lengths cells r = cond (slice_index lengths r == 0) None (Some (take (slice_index lengths r) (drop (r * 64) cells)))
+-- the path that a row says: the first of its networks, or none
+abbrev pub told : ℕ → List ℕ → Option (List ℕ)
+told size networks = cond (size == 0) None (Some (take size networks))
 
 -- what each row says, by block and neighbour
 abbrev pub Rows : Type 0
 Rows = ℕ → ℕ → Option (List ℕ)
-
-abbrev pub rows : ℕ → List ℕ → List ℕ → Rows
-rows blocks lengths cells block neighbour = cond (nat_lt block blocks && nat_lt neighbour 64) (told lengths cells (block * 64 + neighbour)) None
 
 abbrev pub none : Rows
 none block neighbour = None

@@ -1,16 +1,17 @@
 // Which path a network goes by.
-ghost use Rattle.std.specs.Prelude.{◌≡◌, false, [], ◌∷◌, length, get_or, slice_index_or};
+ghost use Rattle.std.specs.Prelude.{◌≡◌, false, [], ◌∷◌, length, slice_index_or};
 ghost use Rattle.std.specs.Option.{option_map};
-ghost use Rattle.relations.specs.Sound.{networks as networks_of, relation as relation_of};
-ghost use Rattle.selection.specs.Choosing.{candidate as candidate_of, choose, meaning, passes as passes_by, rank as rank_of, related, shorter};
+ghost use Rattle.selection.specs.Choosing.{candidate as candidate_of, choose, meaning, passes as passes_by, rank as rank_of, shorter};
+ghost use Rattle.selection.specs.Nodes.{link_up, networks_around, relation_to};
 ghost use Rattle.selection.specs.Paths.{row};
 
+use crate::node::Node;
 use crate::route::Route;
 use crate::table::PathTable;
-use relations::{Relation, Relations};
+use relations::Relation;
 
-// Customers come before peers, and peers before providers.
-fn rank(relation: Relation) -> u8
+// Customers come before peers, and peers before providers. A number, since `keys` compares it beside two more.
+fn rank(relation: Relation) -> usize
     ensures { result ≡ rank_of relation }
 {
     match relation {
@@ -21,87 +22,60 @@ fn rank(relation: Relation) -> u8
     }
 }
 
-fn is_related(relation: Relation) -> bool
-    ensures { result ≡ related relation }
-{
-    !matches!(relation, Relation::Unrelated)
-}
-
 // Whether the path passes the network `me`.
 pub fn passes(path: &[u8], me: u8) -> bool
     ensures { result ≡ passes_by me path.now }
 {
-    let mut left = path;
-    while let [network, rest @ ..] = left {
-        if *network == me {
-            return true;
-        }
-        left = rest;
-    }
-    false
+    path.contains(&me)
 }
 
 // Whether the link to the neighbour is up.
 pub fn is_up(up: &[bool], neighbour: u8) -> bool
     ensures { result ≡ slice_index_or up.now neighbour false }
 {
-    let at = neighbour as usize;
-    at < up.len() && up[at]
+    up.get(neighbour as usize).copied().unwrap_or(false)
 }
 
-// The path by `neighbour` that `me` may go by, if any.
-fn candidate<'a>(
-    relations: &Relations,
-    up: &[bool],
-    received: &'a PathTable,
-    me: u8,
-    block: u16,
-    neighbour: u8,
-) -> Option<&'a [u8]>
-    ensures { option_map (λ x. x.now) result ≡ candidate_of (relation_of relations.now me) (λ j. get_or up.now j false) me (λ j. row received.now block j) neighbour }
+// The path by `neighbour` that the network may go by, if any.
+fn candidate<'a>(node: Node, received: &'a PathTable, block: u16, neighbour: u8) -> Option<&'a [u8]>
+    ensures { option_map (λ x. x.now) result ≡ candidate_of (relation_to node.entry) (link_up node.entry) node.entry.me (λ j. row received.now block j) neighbour }
 {
-    if !is_related(relations.relation(me, neighbour)) || !is_up(up, neighbour) {
+    let relation = node.relations.relation(node.me, neighbour);
+    if !relation.is_related() || !is_up(node.up, neighbour) {
         return None;
     }
     let path = received.path(block, neighbour)?;
-    if passes(path, me) { None } else { Some(path) }
+    (!passes(path, node.me)).then_some(path)
 }
 
 // What candidates are compared by, the first difference decides: the rank, the length, the number.
-fn keys(relations: &Relations, me: u8, neighbour: u8, path: &[u8]) -> [usize; 3]
-    ensures { result ≡ rank_of (relation_of relations.now me neighbour) ∷ length path.now ∷ neighbour ∷ [] }
+fn keys(node: Node, neighbour: u8, path: &[u8]) -> [usize; 3]
+    ensures { result ≡ rank_of (relation_to node.entry neighbour) ∷ length path.now ∷ neighbour ∷ [] }
 {
-    let rank = rank(relations.relation(me, neighbour));
-    [rank as usize, path.len(), neighbour as usize]
+    let relation = node.relations.relation(node.me, neighbour);
+    [rank(relation), path.len(), neighbour as usize]
 }
 
-// What `me` goes by for the block of `home`, where `up` says which links are up.
-pub fn select<'a>(
-    relations: &Relations,
-    up: &[bool],
-    received: &'a PathTable,
-    me: u8,
-    block: u16,
-    home: u8,
-) -> Route<'a>
-    ensures { meaning result ≡ choose shorter (relation_of relations.now me) (λ j. get_or up.now j false) me home (λ j. row received.now block j) (networks_of relations.now) }
+// What the network goes by for the block of `home`.
+pub fn select<'a>(node: Node, received: &'a PathTable, block: u16, home: u8) -> Route<'a>
+    ensures { meaning result ≡ choose shorter (relation_to node.entry) (link_up node.entry) node.entry.me home (λ j. row received.now block j) (networks_around node.entry) }
 {
-    if me == home {
+    if node.me == home {
         return Route::Local;
     }
     let mut best = Route::Nothing;
-    'candidates: for j in 0..relations.networks() {
-        let Some(path) = candidate(relations, up, received, me, block, j) else {
+    'candidates: for j in 0..node.relations.networks() {
+        let Some(path) = candidate(node, received, block, j) else {
             continue;
         };
-        let new = keys(relations, me, j, path);
+        let new = keys(node, j, path);
         if let Route::Via { neighbour, path } = best {
-            let old = keys(relations, me, neighbour, path);
-            for k in 0..3 {
-                if new[k] > old[k] {
+            let old = keys(node, neighbour, path);
+            for (new, old) in new.iter().zip(&old) {
+                if new > old {
                     continue 'candidates;
                 }
-                if new[k] < old[k] {
+                if new < old {
                     break;
                 }
             }

@@ -1,18 +1,17 @@
-// The paths that a network was told, a row of 64 places for each block and neighbour.
-ghost use Rattle.std.specs.Prelude.{◌≡◌, ◌*◌, ◌≤◌, vec_len};
-ghost use Rattle.selection.specs.Rows.{Padded, Short};
+// The paths that a network was told, a row for each block and neighbour.
+ghost use Rattle.std.specs.Prelude.{◌≤◌, vec_len};
+ghost use Rattle.selection.specs.Rows.{Wide};
 
 mod methods;
+mod row;
 
-// Row block * 64 + neighbour has the path's length, 0 where there is none, and 64 places, zero past the path.
+use crate::table::row::Row;
+pub use methods::MOST_BLOCKS;
+
+// For each block a row for each of the 64 neighbours that there may be.
 #[derive(Drop)]
 pub struct PathTable {
-    blocks: u16,
-    lengths: Vec<u8>,
-    cells: Vec<u8>,
-    ghost few: { blocks ≤ 256 },
-    ghost sized: { vec_len lengths ≡ blocks * 64 },
-    ghost roomy: { vec_len cells ≡ blocks * 4096 },
-    ghost short: { Short lengths.items },
-    ghost padded: { Padded lengths.items cells.items },
+    blocks: Vec<[Row; 64]>,
+    ghost few: { vec_len blocks ≤ 256 },
+    ghost wide: { Wide blocks.items },
 }

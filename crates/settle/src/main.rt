@@ -2,7 +2,8 @@
 #![tactic(auto)]
 
 use relations::MOST;
-use std::alloc::{AllocError, Global};
+use std::alloc::AllocError;
+use std::error::Error;
 use std::io::Read;
 use std::process::ExitCode;
 use std::{env, fmt, fs, io};
@@ -27,14 +28,30 @@ A fault has a number and a place, the head, tie K from 0 or the end:
    5  a ring of customers
 ";
 
-// What ends the program with status 1.
-#[derive(Drop)]
+// What ends the program with status 1, and the line that tells it: of a read or a write that fails another line than in
+// the programs that play scripts, so that it shares neither this nor `load` with them.
+#[derive(Debug, Drop)]
 enum Failure {
-    // a line for the user
-    Told(String),
+    // how the program is to be called
+    Usage,
+    Unreadable { path: String, error: io::Error },
+    Ties(Refusal),
     // no memory, or nothing could be written
     Silent,
 }
+
+impl fmt::Display for Failure {
+    fn fmt<W: fmt::Write>(&self, f: &mut fmt::Formatter<W>) -> fmt::Result {
+        match self {
+            Failure::Usage => write!(f, "{USAGE}"),
+            Failure::Unreadable { path, error } => write!(f, "{path}: {error}"),
+            Failure::Ties(refusal) => write!(f, "ties: {refusal}"),
+            Failure::Silent => write!(f, "out of memory, or the output is closed"),
+        }
+    }
+}
+
+impl Error for Failure {}
 
 impl From<io::Error> for Failure {
     fn from(_e: io::Error) -> Failure {
@@ -42,29 +59,9 @@ impl From<io::Error> for Failure {
     }
 }
 
-impl From<fmt::Error> for Failure {
-    fn from(_e: fmt::Error) -> Failure {
-        Failure::Silent
-    }
-}
-
 impl From<AllocError> for Failure {
     fn from(_e: AllocError) -> Failure {
         Failure::Silent
-    }
-}
-
-fn told(heap: Global, line: &str) -> Failure {
-    match String::from_str(heap, line) {
-        Ok(line) => Failure::Told(line),
-        Err(_) => Failure::Silent,
-    }
-}
-
-fn unreadable(heap: Global, path: &str, e: io::Error) -> Failure {
-    match format!(in heap; "{path}: {e}") {
-        Ok(line) => Failure::Told(line),
-        Err(_) => Failure::Silent,
     }
 }
 
@@ -78,36 +75,27 @@ fn load(rt: &HostRuntime, path: &str) -> Result<Vec<u8>, Failure> {
     }
     match fs::read(rt, path) {
         Ok(bytes) => Ok(bytes),
-        Err(e) => Err(unreadable(heap, path, e)),
+        Err(error) => {
+            let path = String::from_str(heap, path)?;
+            Err(Failure::Unreadable { path, error })
+        }
     }
-}
-
-// Why a ties file is refused, as a line for the user.
-fn refused(heap: Global, refusal: &Refusal) -> Result<String, Failure> {
-    let line = refusal.describe(heap)?;
-    Ok(format!(in heap; "ties: {line}")?)
 }
 
 fn check(rt: &HostRuntime, path: &str) -> Result<(), Failure> {
     let bytes = load(rt, path)?;
-    match ties::read(bytes.as_slice(), MOST, rt.alloc()) {
-        Ok(relations) => {
-            let line = ties::summary(&relations, rt.alloc())?;
-            rt.println(line.as_str())?;
-            Ok(())
-        }
-        Err(refusal) => Err(Failure::Told(refused(rt.alloc(), &refusal)?)),
-    }
+    let relations = ties::read(bytes.as_slice(), MOST, rt.alloc()).map_err(Failure::Ties)?;
+    let line = ties::summary(&relations, rt.alloc())?;
+    rt.println(line.as_str())?;
+    Ok(())
 }
 
 fn run(rt: &HostRuntime) -> Result<(), Failure> {
     let mut args = env::args(rt)?;
     let _program = args.next();
-    let Some(path) = args.next() else {
-        return Err(told(rt.alloc(), USAGE));
-    };
+    let path = args.next().ok_or(Failure::Usage)?;
     if args.next().is_some() {
-        return Err(told(rt.alloc(), USAGE));
+        return Err(Failure::Usage);
     }
     if path.as_str() == "--help" {
         rt.print(HELP)?;
@@ -119,12 +107,8 @@ fn run(rt: &HostRuntime) -> Result<(), Failure> {
 fn main(rt: HostRuntime) -> ExitCode {
     match run(&rt) {
         Ok(()) => ExitCode::SUCCESS,
-        Err(Failure::Told(line)) => {
-            let _ = eprintln!(rt; "settle: {line}");
-            ExitCode::FAILURE
-        }
-        Err(Failure::Silent) => {
-            let _ = eprintln!(rt; "settle: out of memory, or the output is closed");
+        Err(failure) => {
+            let _ = eprintln!(rt; "settle: {failure}");
             ExitCode::FAILURE
         }
     }

@@ -1,44 +1,61 @@
--- The lowest pair that has a letter, letter by letter. Assumes nothing.
-use Rattle.std.proofs.Common.{◌≡◌, ℕ, ◌+◌, ◌<◌, ◌≤◌, true, false, cond, ◌&&◌, eqb, List, [], ◌∷◌, ◌++◌, length, get_or, take, Some, None, Option, sym, refl, ap, ◌∙◌, subst, ⊎_elim, arith, length-append}
-use Rattle.std.proofs.lemmas.List.{map_push, take_all, take_more}
-use Rattle.std.proofs.lemmas.Bool.{cases_Bool, eq-eqb}
+-- The lowest pair that has a letter. Assumes nothing.
+use Rattle.std.proofs.Common.{◌≡◌, ℕ, zero, suc, ◌<◌, Bool, true, false, cond, ◌&&◌, ◌||◌, eqb, ltb, List, [], ◌∷◌, length, get_or, Some, sym, refl, ap, ◌∙◌, subst, ⊎_elim, arith}
+use lib.ListN.{length-map}
+use Rattle.std.specs.Ordering.{is_lt, nat_cmp, ordering_then}
+use Rattle.std.specs.declared.cmp.Ordering.TheVariants.{Less, Equal, Greater}
+use Rattle.std.proofs.lemmas.Bool.{and_parts, cases_Bool, eq-eqb}
 use Rattle.std.proofs.lemmas.Bool.Decides.{nat_tests}
-use Rattle.mail.specs.Posts.{Post, between, goes, meant, posts}
-use Rattle.simulation.specs.Resting.{LowestOf, lower, lower_end}
+use Rattle.links.specs.Run.{update}
+use Rattle.mail.specs.Posting.{blank}
+use Rattle.mail.specs.Posts.{Post, between, flying, goes, inside, meant, posts}
+use Rattle.simulation.specs.Resting.{LowestEnds, LowestOf, lower}
 use Rattle.mail.specs.declared.letter.Letter.{Letter}
-use Rattle.mail.proofs.Posted.{between_append}
 
-module _ (ps : List Post) (p : Post) where
-  still_none : (a c : ℕ) → between a c ps ≡ [] → goes a c p ≡ false → between a c (ps ++ p ∷ []) ≡ []
-  still_none a c e off = between_append a c ps (p ∷ []) ∙ (λ x. e x ++ cond (off x) (p.what ∷ []) [])
-
-  its_own : 0 < length (between p.from p.to (ps ++ p ∷ []))
-  its_own =
-      let here : between p.from p.to (p ∷ []) ≡ p.what ∷ [] = λ x. cond (eq-eqb p.from p.from refl x && eq-eqb p.to p.to refl x) (p.what ∷ []) [] in
-      omega (arith, ap length (between_append p.from p.to ps (p ∷ [])), length-append (between p.from p.to ps) (between p.from p.to (p ∷ [])), ap length here)
-
-  still_some : (i j : ℕ) → 0 < length (between i j ps) → 0 < length (between i j (ps ++ p ∷ []))
-  still_some i j h = omega (arith, h, ap length (between_append i j ps (p ∷ [])), length-append (between i j ps) (between i j (p ∷ [])))
-
-not_it : (a c i j : ℕ) → lower a c i j ≡ true → (eqb i a && eqb j c) ≡ false
-not_it a c i j h = grind (arith, nat_tests)
-
-on : (a c f t i j : ℕ) → lower a c f t ≡ true → lower f t i j ≡ true → lower a c i j ≡ true
-on a c f t i j h k = grind (arith, nat_tests)
+-- pairs are compared as the rules have it
+is_lower : (f t i j : ℕ) → is_lt (ordering_then (nat_cmp f i) (nat_cmp t j)) ≡ lower f t i j
+is_lower f t i j = by (ltb f i) (eqb f i) (ltb t j) (eqb t j)
+  where
+    by : (a b c d : Bool) → is_lt (ordering_then (cond a Less (cond b Equal Greater)) (cond c Less (cond d Equal Greater))) ≡ (a || (b && c))
+    by true b c d = refl
+    by false false c d = refl
+    by false true true d = refl
+    by false true false true = refl
+    by false true false false = refl
 
 other : (a c f t i j : ℕ) → lower a c i j ≡ true → lower f t i j ≡ false → (eqb f a && eqb t c) ≡ false
 other a c f t i j h k = grind (arith, nat_tests)
 
-pub lowest_more : (ps : List Post) (o : Option (ℕ × ℕ)) (l : Letter) → LowestOf ps o → LowestOf (ps ++ meant l ∷ []) (Some (lower_end o l))
-lowest_more ps None l none = (its_own ps (meant l), λ a c h. still_none ps (meant l) a c (ap (between a c) none) (not_it a c l.from l.to h))
-lowest_more ps (Some (i, j)) l (some, none) =
+-- a letter that has the ends of a pair is in flight between them
+has_some : (i j : ℕ) (ls : List Letter) (k : ℕ) → k < length ls → (get_or ls k blank).from ≡ i → (get_or ls k blank).to ≡ j → 0 < length (between i j (posts ls))
+has_some i j [] k l f t = absurd (omega arith)
+has_some i j (l ∷ ls) zero h f t =
+    let here : between i j (posts (l ∷ ls)) ≡ (meant l).what ∷ between i j (posts ls) = λ x. cond (eq-eqb l.from i f x && eq-eqb l.to j t x) ((meant l).what ∷ between i j (posts ls)) (between i j (posts ls)) in
+    omega (arith, ap length here)
+has_some i j (l ∷ ls) (suc k) h f t = more (goes i j (meant l)) (meant l).what _ (has_some i j ls k (omega arith) f t)
+  where
+    more : {X : Type 0} (b : Bool) (u : X) (us : List X) → 0 < length us → 0 < length (cond b (u ∷ us) us)
+    more true u us h = omega arith
+    more false u us h = h
+
+-- where no letter has a lower pair, none is in flight between one
+none_lower : (i j : ℕ) (ls : List Letter) → ((k : ℕ) → k < length ls → lower (get_or ls k blank).from (get_or ls k blank).to i j ≡ false) → (a c : ℕ) → lower a c i j ≡ true → between a c (posts ls) ≡ []
+none_lower i j [] h a c below = refl
+none_lower i j (l ∷ ls) h a c below = (λ x. cond (other a c l.from l.to i j below (h 0 (omega arith)) x) ((meant l).what ∷ between a c (posts ls)) (none_lower i j ls (λ k lt. h (suc k) (omega arith)) a c below x))
+
+pub lowest_is : (ls : List Letter) (m : ℕ × ℕ) → LowestEnds ls m → LowestOf (posts ls) (Some m)
+lowest_is ls m ((k, l, f, t), low) = (has_some m.0 m.1 ls k l f t, none_lower m.0 m.1 ls (λ k h. sym (is_lower (get_or ls k blank).from (get_or ls k blank).to m.0 m.1) ∙ low k h))
+
+-- what is in flight is between networks that there are
+pub ends_inside : (n i j : ℕ) (ps : List Post) → inside n ps ≡ true → 0 < length (between i j ps) → (ltb i n && ltb j n) ≡ true
+ends_inside n i j [] e h = absurd (omega arith)
+ends_inside n i j (p ∷ ps) e h =
     ⊎_elim
-    (λ b. subst (λ q. LowestOf (ps ++ meant l ∷ []) (Some q)) (sym (ap (λ t. cond {A = ℕ × ℕ} t (l.from, l.to) (i, j)) b)) (its_own ps (meant l), λ a c h. still_none ps (meant l) a c (none a c (on a c l.from l.to i j h b)) (not_it a c l.from l.to h)))
-    (λ b. subst (λ q. LowestOf (ps ++ meant l ∷ []) (Some q)) (sym (ap (λ t. cond {A = ℕ × ℕ} t (l.from, l.to) (i, j)) b)) (still_some ps (meant l) i j some, λ a c h. still_none ps (meant l) a c (none a c h) (other a c l.from l.to i j h b)))
-    (cases_Bool (lower l.from l.to i j))
+    (λ b. here p.from p.to (inside n ps) b e)
+    (λ b. ends_inside n i j ps (and_parts _ _ e).1 (subst (λ t. 0 < length (cond t (p.what ∷ between i j ps) (between i j ps))) b h))
+    (cases_Bool (goes i j p))
+  where
+    here : (f t : ℕ) (rest : Bool) → (eqb f i && eqb t j) ≡ true → ((ltb f n && ltb t n) && rest) ≡ true → (ltb i n && ltb j n) ≡ true
+    here f t rest b e = grind (arith, nat_tests)
 
-pub lowest_taken : (ls : List Letter) (k : ℕ) (d : Letter) (o : Option (ℕ × ℕ)) (q : ℕ × ℕ) → k < length ls → q ≡ lower_end o (get_or ls k d) → LowestOf (posts (take k ls)) o → LowestOf (posts (take (k + 1) ls)) (Some q)
-lowest_taken ls k d o q l e h = subst {A = List Post × (ℕ × ℕ)} (λ z. LowestOf z.0 (Some z.1)) (λ x. (sym (ap posts (take_more ls k d l) ∙ map_push meant (take k ls) (get_or ls k d)) x, sym e x)) (lowest_more (posts (take k ls)) o (get_or ls k d) h)
-
-pub lowest_all : (ls : List Letter) (k : ℕ) (o : Option (ℕ × ℕ)) → length ls ≤ k → LowestOf (posts (take k ls)) o → LowestOf (posts ls) o
-lowest_all ls k o l h = subst (λ t. LowestOf (posts t) o) (take_all k ls l) h
+pub flies : (ps : List Post) (i j : ℕ) → 0 < length (between i j ps) → 0 < length (flying ps i j)
+flies ps i j h = omega (arith, length-map (between i j ps) update)

@@ -1,11 +1,13 @@
 -- Hearing until nothing is in flight. Assumes nothing.
-use Rattle.std.specs.Prelude.{◌≡◌, ℕ, ◌<◌, Bool, true, cond, ◌&&◌, ◌||◌, List, [], length, Some, None, Option, ◌==◌, nat_lt}
+use Rattle.std.specs.Prelude.{◌≡◌, ℕ, ◌<◌, Bool, true, false, ◌&&◌, ◌||◌, List, [], length, Some, None, Option, ◌==◌, nat_lt, slice_index_or}
+use Rattle.std.specs.Ordering.{is_lt, nat_cmp, ordering_then}
 use Rattle.links.specs.Run.{State}
 use Rattle.links.specs.World.{World}
 use Rattle.convergence.specs.Levels.{Heights}
 use Rattle.convergence.specs.Measure.{left}
-use Rattle.mail.specs.declared.letter.Letter.{Letter}
+use Rattle.mail.specs.Posting.{blank}
 use Rattle.mail.specs.Posts.{Post, between}
+use Rattle.mail.specs.declared.letter.Letter.{Letter}
 use Rattle.simulation.specs.Steps.{both, hearing}
 
 -- less is left in flight, whatever heights the networks are given
@@ -21,10 +23,9 @@ abbrev pub LowestOf : List Post → Option (ℕ × ℕ) → Type 0
 LowestOf ps None = ps ≡ []
 LowestOf ps (Some (i, j)) = (0 < length (between i j ps)) × ((a c : ℕ) → lower a c i j ≡ true → between a c ps ≡ [])
 
--- the lower of a pair, if there is one, and the ends of a letter
-abbrev pub lower_end : Option (ℕ × ℕ) → Letter → ℕ × ℕ
-lower_end None l = (l.from, l.to)
-lower_end (Some (i, j)) l = cond (lower l.from l.to i j) (l.from, l.to) (i, j)
+-- these are the ends of a letter, and no letter has lower ones, as pairs are compared
+abbrev pub LowestEnds : List Letter → ℕ × ℕ → Type 0
+LowestEnds ls m = ((k : ℕ) × (k < length ls) × ((slice_index_or ls k blank).from ≡ m.0) × ((slice_index_or ls k blank).to ≡ m.1)) × ((k : ℕ) → k < length ls → is_lt (ordering_then (nat_cmp (slice_index_or ls k blank).from m.0) (nat_cmp (slice_index_or ls k blank).to m.1)) ≡ false)
 
 -- nothing is in flight
 abbrev pub Still : State → Type 0

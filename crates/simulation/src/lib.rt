@@ -6,4 +6,4 @@ mod simulation;
 mod wording;
 
 pub use cause::Cause;
-pub use simulation::Simulation;
+pub use simulation::{MOST_BLOCKS, MOST_NETWORKS, Simulation};

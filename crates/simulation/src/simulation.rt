@@ -14,6 +14,8 @@ mod reading;
 mod resting;
 mod turning;
 
+pub use making::{MOST_BLOCKS, MOST_NETWORKS};
+
 // The networks stand in the order of their numbers; the letters, what is in flight, in the order in which they were sent.
 #[derive(Drop)]
 pub struct Simulation {

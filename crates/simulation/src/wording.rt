@@ -1,8 +1,10 @@
 // Why a step is not played, in words.
-ghost use Rattle.std.specs.Prelude.{◌≡◌};
+ghost use Rattle.std.specs.Prelude.{◌≡◌, Some};
 ghost use Rattle.simulation.specs.Shown.{cause_words, number as number_of};
 
 use crate::cause::Cause;
+use std::error::Error;
+use std::fmt;
 
 impl Cause {
     // The number of the fault; 0 for want of memory, which is none.
@@ -31,3 +33,13 @@ impl Cause {
         }
     }
 }
+
+impl fmt::Display for Cause {
+    ghost output = { λ cause. Some (cause_words cause) };
+
+    fn fmt<W: fmt::Write>(&self, f: &mut fmt::Formatter<W>) -> fmt::Result {
+        f.write_str(self.text())
+    }
+}
+
+impl Error for Cause {}

@@ -1,20 +1,44 @@
-// What ends a program with status 1.
+// What ends a program with status 1, and the line that tells it.
+use report::{HomeRefusal, StepFault};
+use script::LineFault;
 use std::alloc::{AllocError, AllocFailed, Global};
+use std::error::Error;
 use std::{fmt, io};
+use ties::Refusal;
 
-#[derive(Drop)]
+#[derive(Debug, Drop)]
 pub enum Failure {
-    // a line for the user
-    Told(String),
-    // no memory
+    // how the program is to be called
+    Usage(&'static str),
+    // what was to be read or written, and why it was not
+    Unmoved { what: String, error: io::Error },
+    Ties(Refusal),
+    Homes(HomeRefusal),
+    // more networks or blocks than can be rehearsed
+    TooLarge,
+    // a line of the script that is not read
+    Line(LineFault<script::Cause>),
+    // a line of the script that is not played
+    Step(StepFault),
     Memory,
 }
 
-impl From<fmt::Error> for Failure {
-    fn from(_e: fmt::Error) -> Failure {
-        Failure::Memory
+impl fmt::Display for Failure {
+    fn fmt<W: fmt::Write>(&self, f: &mut fmt::Formatter<W>) -> fmt::Result {
+        match self {
+            Failure::Usage(usage) => write!(f, "{usage}"),
+            Failure::Unmoved { what, error } => write!(f, "{what}: {error}"),
+            Failure::Ties(refusal) => write!(f, "ties: {refusal}"),
+            Failure::Homes(refusal) => write!(f, "home: {refusal}"),
+            Failure::TooLarge => write!(f, "more than 16 networks or 64 blocks"),
+            Failure::Line(fault) => write!(f, "script: {fault}"),
+            Failure::Step(fault) => write!(f, "script: {fault}"),
+            Failure::Memory => write!(f, "out of memory"),
+        }
     }
 }
+
+impl Error for Failure {}
 
 impl From<AllocError> for Failure {
     fn from(_e: AllocError) -> Failure {
@@ -28,18 +52,10 @@ impl<T: Drop> From<AllocFailed<T>> for Failure {
     }
 }
 
-// A line for the user.
-pub fn told(heap: Global, line: &str) -> Failure {
-    match String::from_str(heap, line) {
-        Ok(line) => Failure::Told(line),
-        Err(_) => Failure::Memory,
-    }
-}
-
 // What was to be read or written, and why it was not.
-pub fn unmoved(heap: Global, what: &str, e: io::Error) -> Failure {
-    match format!(in heap; "{what}: {e}") {
-        Ok(line) => Failure::Told(line),
-        Err(_) => Failure::Memory,
+pub fn unmoved(heap: Global, what: &str, error: io::Error) -> Failure {
+    match String::from_str(heap, what) {
+        Ok(what) => Failure::Unmoved { what, error },
+        Err(e) => Failure::from(e),
     }
 }

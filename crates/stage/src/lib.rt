@@ -6,7 +6,6 @@ mod loading;
 mod performing;
 mod setting;
 
-pub use failure::{Failure, told, unmoved};
-pub use loading::{load, words};
+pub use failure::{Failure, unmoved};
+pub use loading::words;
 pub use performing::perform;
-pub use setting::set_up;

@@ -6,30 +6,20 @@ use std::{env, fs};
 // The words behind the program's name.
 pub fn words(rt: &HostRuntime) -> Result<Vec<String>, Failure> {
     let heap = rt.alloc();
-    let mut args = match env::args(rt) {
-        Ok(args) => args,
-        Err(e) => return Err(unmoved(heap, "the words of the command", e)),
-    };
+    let mut args = env::args(rt).map_err(|e| unmoved(heap, "the words of the command", e))?;
     let _program = args.next();
-    let mut words = Vec::new(heap);
-    for word in args {
-        words.push(word)?;
-    }
-    Ok(words)
+    Ok(args.collect(heap)?)
 }
 
 // The bytes of a file, or of standard input where the path is `-`.
-pub fn load(rt: &HostRuntime, path: &str) -> Result<Vec<u8>, Failure> {
+pub(crate) fn load(rt: &HostRuntime, path: &str) -> Result<Vec<u8>, Failure> {
     let heap = rt.alloc();
-    if path == "-" {
-        let mut bytes = Vec::new(heap);
-        return match rt.stdin().read_to_end(&mut bytes) {
-            Ok(_) => Ok(bytes),
-            Err(e) => Err(unmoved(heap, "standard input", e)),
-        };
+    if path != "-" {
+        return fs::read(rt, path).map_err(|e| unmoved(heap, path, e));
     }
-    match fs::read(rt, path) {
-        Ok(bytes) => Ok(bytes),
-        Err(e) => Err(unmoved(heap, path, e)),
-    }
+    let mut bytes = Vec::new(heap);
+    rt.stdin()
+        .read_to_end(&mut bytes)
+        .map_err(|e| unmoved(heap, "standard input", e))?;
+    Ok(bytes)
 }

@@ -4,25 +4,18 @@ ghost use Rattle.script.specs.Next.{left_of};
 ghost use Rattle.stage.specs.Reading.{Shortens};
 
 use crate::failure::{Failure, unmoved};
+use crate::loading::load;
+use crate::setting::set_up;
+use report::{Shown, StepFault, line_fault};
 use script::{Command, Limits, Script};
 use simulation::Simulation;
 
 // The next command, or what is told of a faulty line.
-fn next(
-    rt: &HostRuntime,
-    script: &mut Script<'_>,
-    limits: Limits,
-) -> Result<Option<Command>, Failure>
+fn next(script: &mut Script<'_>, limits: Limits) -> Result<Option<Command>, Failure>
     ensures { Shortens result (length (left_of script.old)) (length (left_of script.new)) }
 {
-    match script.next(limits) {
-        Ok(command) => Ok(command),
-        Err(cause) => {
-            let heap = rt.alloc();
-            let line = report::line_fault(cause, script.line(), heap)?;
-            Err(Failure::Told(format!(in heap; "script: {line}")?))
-        }
-    }
+    let next = script.next(limits);
+    next.map_err(|cause| Failure::Line(line_fault(cause, script.line())))
 }
 
 // Plays a command, and writes what is shown to standard output.
@@ -32,29 +25,37 @@ fn play(
     command: Command,
     line: usize,
 ) -> Result<(), Failure> {
-    let heap = rt.alloc();
-    if let Err(cause) = report::play(simulation, command) {
-        let line = report::step_fault(cause, line, heap)?;
-        return Err(Failure::Told(format!(in heap; "script: {line}")?));
-    }
+    report::play(simulation, command).map_err(|cause| Failure::Step(StepFault { cause, line }))?;
     if let Command::Show { block } = command {
-        let text = report::show(simulation, block, heap)?;
-        if let Err(e) = rt.print(text.as_str()) {
-            return Err(unmoved(heap, "standard output", e));
-        }
+        rt.print(Shown { simulation, block })
+            .map_err(|e| unmoved(rt.alloc(), "standard output", e))?;
     }
     Ok(())
 }
 
 // Plays a script to its end or its first fault. What stands before the fault has been done and shown.
-pub fn perform(rt: &HostRuntime, simulation: &mut Simulation, bytes: &[u8]) -> Result<(), Failure> {
+fn play_all(rt: &HostRuntime, simulation: &mut Simulation, bytes: &[u8]) -> Result<(), Failure> {
     let limits = Limits {
         networks: simulation.networks(),
         blocks: simulation.blocks(),
     };
     let mut script = Script::new(bytes);
-    while let Some(command) = next(rt, &mut script, limits)? {
+    while let Some(command) = next(&mut script, limits)? {
         play(rt, simulation, command, script.line())?;
     }
     Ok(())
+}
+
+// Sets up networks by the files and words that are named, and plays a script: the ties first, then the homes, then the
+// script.
+pub fn perform(
+    rt: &HostRuntime,
+    ties: &str,
+    script: &str,
+    homes: &[String],
+) -> Result<(), Failure> {
+    let ties = load(rt, ties)?;
+    let mut simulation = set_up(ties.as_slice(), homes, rt.alloc())?;
+    let script = load(rt, script)?;
+    play_all(rt, &mut simulation, script.as_slice())
 }

@@ -9,7 +9,7 @@ fn survey(rt: &HostRuntime, path: &str) -> anyhow::Result<()> {
     let bytes = fs::read(rt, path)?;
     let line = match ties::read(bytes.as_slice(), MOST, heap) {
         Ok(relations) => ties::summary(&relations, heap)?,
-        Err(refusal) => refusal.describe(heap)?,
+        Err(refusal) => refusal.to_string(heap)?,
     };
     rt.println(line.as_str())?;
     Ok(())
@@ -19,8 +19,7 @@ fn run(rt: &HostRuntime) -> anyhow::Result<()> {
     let mut args = env::args(rt)?;
     let _program = args.next();
     for path in args {
-        rt.print(path.as_str())?;
-        rt.print(": ")?;
+        print!(rt; "{path}: ")?;
         survey(rt, path.as_str())?;
     }
     Ok(())

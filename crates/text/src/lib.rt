@@ -3,4 +3,4 @@
 
 mod numbers;
 
-pub use numbers::push_numbers;
+pub use numbers::Row;

@@ -1,26 +1,24 @@
 // Numbers in a row, as `1, 2, 3`.
-ghost use Rattle.std.specs.Prelude.{◌≡◌, ◌++◌, if◌then◌else◌, string_bytes, codes, decimal, OnOk};
+ghost use Rattle.std.specs.Prelude.{Some};
 ghost use Rattle.text.specs.Row.{spelled};
 
-use std::alloc::AllocError;
+use std::fmt;
 
-// Appends a number, with a comma before it unless it is the first.
-fn push_number(out: &mut String, first: bool, number: u8) -> Result<(), AllocError>
-    ensures { OnOk result (string_bytes out.new ≡ string_bytes out.old ++ (if first then decimal number else codes ", " ++ decimal number)) }
-{
-    if first {
-        write!(out, "{number}")
-    } else {
-        write!(out, ", {number}")
-    }
-}
+// Shows the numbers with commas between them.
+#[derive(Clone, Copy, Debug)]
+pub struct Row<'a>(pub &'a [u8]);
 
-// Appends the numbers with commas between them. Only want of memory is an error.
-pub fn push_numbers(out: &mut String, numbers: &[u8]) -> Result<(), AllocError>
-    ensures { OnOk result (string_bytes out.new ≡ string_bytes out.old ++ spelled numbers.now) }
-{
-    for (k, number) in numbers.iter().enumerate() {
-        push_number(out, k == 0, *number)?;
+impl fmt::Display for Row<'_> {
+    ghost output = { λ row. Some (spelled row.0.now) };
+
+    fn fmt<W: fmt::Write>(&self, f: &mut fmt::Formatter<W>) -> fmt::Result {
+        let Some((first, rest)) = self.0.split_first() else {
+            return Ok(());
+        };
+        write!(f, "{first}")?;
+        for number in rest {
+            write!(f, ", {number}")?;
+        }
+        Ok(())
     }
-    Ok(())
 }

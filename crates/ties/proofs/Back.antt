@@ -1,5 +1,6 @@
 -- Reading and writing a ties file undo each other. Assumes nothing.
-use Rattle.std.proofs.Common.{◌≡◌, ℕ, ◌<◌, ◌≤◌, List, Some, None, Ok, Err, vec_items, Option, sym, refl, ◌∙◌, subst, arith}
+use Rattle.std.proofs.Common.{◌≡◌, ℕ, ◌<◌, ◌≤◌, List, Ok, Err, vec_items, sym, refl, ◌∙◌, subst}
+use Rattle.std.proofs.lemmas.Option.{none-some}
 use Rattle.relations.specs.Cycle.{Cycle as CycleOf, First}
 use Rattle.relations.specs.Sound.{networks as networks_of, relation as relation_of}
 use Rattle.relations.specs.declared.sound.Relations.{Relations}
@@ -10,24 +11,18 @@ use Rattle.refusals.specs.declared.refusal.Refusal.TheVariants.{Fault, Cycle, Me
 use Rattle.ties.specs.File.{ties, after}
 use Rattle.ties.specs.Faults.{Faultless, FirstFault}
 use Rattle.listing.specs.Encoding.{encoding}
-use Rattle.ties.specs.Laws.{EncodedReads, EncodesBack, ReadsBack}
+use Rattle.ties.specs.Laws.{EncodedReads, ReadsBack}
 use Rattle.ties.proofs.Encoded.{encoded_says, encoded_faultless}
 
 pub encoded_reads : EncodedReads
 encoded_reads most n rel a allowed =
     (encoded_faultless n rel a.both a.apart a.within most a.some a.few allowed, encoded_says n rel a.both a.apart a.within)
 
-both_told : (o : Option Cause) (c : Cause) → o ≡ None → o ≡ Some c → ⊥
-both_told o c p q = let z : ◌≡◌ {A = ℕ} 0 1 = cc in omega arith
-
 -- a file with no fault has no first fault
 no_fault : (most : ℕ) (bs : List ℕ) (p : Place) (c : Cause) → Faultless most bs → FirstFault most bs p c → ⊥
-no_fault most bs Head c f e = both_told _ c f.head e
-no_fault most bs (Tie k) c f e = both_told _ c (f.each k e.1.1) e.1.2
-no_fault most bs End c f e = both_told _ c f.end e.2
-
-pub encodes_back : EncodesBack
-encodes_back most bs r a = sym a.encodes
+no_fault most bs Head c f e = none-some c (sym f.head ∙ e)
+no_fault most bs (Tie k) c f e = none-some c (sym (f.each k e.1.1) ∙ e.1.2)
+no_fault most bs End c f e = none-some c (sym f.end ∙ e.2)
 
 module _ (most : ℕ) (r : Relations) (some : 0 < networks_of r) (allowed : networks_of r ≤ most) where
   abbrev file : List ℕ

@@ -121,8 +121,8 @@ module _ (n : ℕ) (rel : Between) («mutual» : Mutual rel) (apart : Apart rel)
       let said : meant u.kind ≡ opposite (meant t.kind) = h.means ∙ back in
       ⊎_elim
       (λ k. ⊎_elim
-      (λ l. let z : ◌≡◌ {A = ℕ} 0 1 = cc (ap meant l, ap (λ v. opposite (meant v)) k, said) in omega arith)
-      (λ l. let z : ◌≡◌ {A = ℕ} 0 1 = cc (ap meant l.0, ap (λ v. opposite (meant v)) k, said) in omega arith)
+      (λ l. let z : ◌≡◌ {A = ℕ} 0 1 = cc (ap meant l, said) in omega arith)
+      (λ l. let z : ◌≡◌ {A = ℕ} 0 1 = cc (ap meant l.0, said) in omega arith)
       h.known)
       (λ k. ⊎_elim
       (λ l. let z : ◌≡◌ {A = ℕ} 0 1 = cc (ap meant l, ap (λ v. opposite (meant v)) k.0, said) in omega arith)

@@ -1,4 +1,3 @@
-mod Causes
 mod Progress
 mod Decoded
 mod Encoded

@@ -35,6 +35,11 @@ Refused most bs (Fault p c) = FirstFault most bs p c
 Refused most bs (Cycle ring) = Faultless most bs × First (after bs (ties bs)) (vec_items ring)
 Refused most bs Memory = Unit {0}
 
+-- no thing has a fault, and the table says what the bytes say; or the refusal
+abbrev pub TableRead : ℕ → List ℕ → Result Matrix Refusal → Type 0
+TableRead most bs (Ok m) = Faultless most bs × (count m ≡ networks bs) × ((i j : ℕ) → rel m i j ≡ after bs (ties bs) i j)
+TableRead most bs (Err e) = Refused most bs e
+
 -- the relations that are read
 pub record Accepted (most : ℕ) (bs : List ℕ) (r : Relations) : Type 0 where
   pub faultless : Faultless most bs

@@ -2,7 +2,7 @@
 ghost use Rattle.std.specs.Prelude.{◌≡◌, ◌+◌, ◌*◌, ◌≤◌, OnOk};
 ghost use Rattle.wire.specs.Reading.{input, place};
 ghost use Rattle.ties.specs.File.{networks as networks_in, ties as ties_in};
-ghost use Rattle.ties.specs.Outcome.{Read, TiesRead};
+ghost use Rattle.ties.specs.Outcome.{Read, TableRead, TiesRead};
 
 use crate::tie::{Head, Tie};
 use cycles::{Unsound, sound};
@@ -24,15 +24,31 @@ fn read_ties(reader: &mut Reader, head: Head, heap: Global) -> Result<Matrix, Re
     let mut matrix = Matrix::new(heap, head.networks)?;
     let mut last: Option<Tie> = None;
     for k in 0..head.ties {
-        let tie = match Tie::read(reader, &matrix, last) {
-            Ok(tie) => tie,
-            Err(cause) => {
-                let place = Place::Tie(k);
-                return Err(Refusal::Fault { place, cause });
-            }
-        };
-        let _ = matrix.relate(tie.first, tie.second, tie.relation);
+        let tie = Tie::read(reader, &matrix, last).map_err(|cause| Refusal::Fault {
+            place: Place::Tie(k),
+            cause,
+        })?;
+        matrix.relate(tie.first, tie.second, tie.relation);
         last = Some(tie);
+    }
+    Ok(matrix)
+}
+
+// All that a ties file says, as a table, where the caller allows `most` networks.
+fn read_table(bytes: &[u8], most: u8, heap: Global) -> Result<Matrix, Refusal>
+    ensures { TableRead most bytes.now result }
+{
+    let mut reader = Reader::new(bytes);
+    let head = Head::read(&mut reader, most).map_err(|cause| Refusal::Fault {
+        place: Place::Head,
+        cause,
+    })?;
+    let matrix = read_ties(&mut reader, head, heap)?;
+    if !reader.at_end() {
+        return Err(Refusal::Fault {
+            place: Place::End,
+            cause: Cause::Surplus,
+        });
     }
     Ok(matrix)
 }
@@ -41,22 +57,8 @@ fn read_ties(reader: &mut Reader, head: Head, heap: Global) -> Result<Matrix, Re
 pub fn read(bytes: &[u8], most: u8, heap: Global) -> Result<Relations, Refusal>
     ensures { Read most bytes.now result }
 {
-    let mut reader = Reader::new(bytes);
-    let head = match Head::read(&mut reader, most) {
-        Ok(head) => head,
-        Err(cause) => {
-            let place = Place::Head;
-            return Err(Refusal::Fault { place, cause });
-        }
-    };
-    let matrix = read_ties(&mut reader, head, heap)?;
-    if !reader.at_end() {
-        let place = Place::End;
-        return Err(Refusal::Fault {
-            place,
-            cause: Cause::Surplus,
-        });
-    }
+    let matrix = read_table(bytes, most, heap)?;
+    // no `From`, since both types are of other crates
     match sound(matrix, heap) {
         Ok(relations) => Ok(relations),
         Err(Unsound::Cycle(ring)) => Err(Refusal::Cycle(ring)),

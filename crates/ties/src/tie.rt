@@ -7,7 +7,7 @@ ghost use Rattle.ties.specs.File.{networks as networks_in, ties as ties_in, mean
 ghost use Rattle.ties.specs.Faults.{told, head_has, rises};
 ghost use Rattle.ties.specs.Steps.{ordered, tie_told, pair_has};
 
-use listing::TIES;
+use listing::{Kind, TIES};
 use refusals::Cause;
 use relations::{MOST, Matrix, Relation};
 use wire::Reader;
@@ -28,7 +28,8 @@ pub struct Tie {
 }
 
 impl Head {
-    // The head, where the caller allows `most` networks.
+    // The head, where the caller allows `most` networks. Each answer of the reader is taken apart by `let .. else`: of the
+    // forms asked for in docs/DECISIONS.md, that is the one for this place.
     pub(crate) fn read(reader: &mut Reader, most: u8) -> Result<Head, Cause>
         requires { place reader.old ≡ 0 }
         ensures source { input reader.new ≡ input reader.old }
@@ -57,7 +58,7 @@ impl Head {
 }
 
 impl Tie {
-    // The next tie, after those that `matrix` has, of which `last` was the last.
+    // The next tie, after those that `matrix` has, of which `last` was the last. By `let .. else`, as `Head::read`.
     pub(crate) fn read(
         reader: &mut Reader,
         matrix: &Matrix,
@@ -75,51 +76,45 @@ impl Tie {
         let Some(kind) = reader.byte() else {
             return Err(Cause::Cut);
         };
-        let relation = match kind {
-            1 => Relation::Provider,
-            2 => Relation::Peer,
-            _ => return Err(Cause::UnknownKind),
-        };
+        let kind = Kind::try_from(kind).map_err(|_| Cause::UnknownKind)?;
         let tie = Tie {
             first,
             second,
-            relation,
+            relation: Relation::from(kind),
         };
-        match tie.fault(matrix, last) {
-            Some(cause) => Err(cause),
-            None => Ok(tie),
-        }
+        tie.check(matrix, last)?;
+        Ok(tie)
     }
 
-    // What is wrong with the tie, after those that `matrix` has, of which `last` was the last.
-    fn fault(self, matrix: &Matrix, last: Option<Tie>) -> Option<Cause>
-        ensures { result ≡ told (pair_has (count matrix.now) self (ordered last self.first self.second) (related (rel matrix.now self.first self.second))) }
+    // Whether the tie may stand after those that `matrix` has, of which `last` was the last.
+    fn check(self, matrix: &Matrix, last: Option<Tie>) -> Result<(), Cause>
+        ensures { MatchResult result (λ _. told (pair_has (count matrix.now) self (ordered last self.first self.second) (related (rel matrix.now self.first self.second))) ≡ None) (λ c. told (pair_has (count matrix.now) self (ordered last self.first self.second) (related (rel matrix.now self.first self.second))) ≡ Some c) }
     {
         let networks = matrix.networks();
         if self.first >= networks || self.second >= networks {
-            return Some(Cause::NoSuchNetwork);
+            return Err(Cause::NoSuchNetwork);
         }
         if let Some(before) = last
             && !self.follows(before)
         {
-            return Some(Cause::NotRising);
+            return Err(Cause::NotRising);
         }
-        if matrix.relation(self.first, self.second) != Relation::Unrelated {
-            return Some(Cause::SamePair);
+        if matrix.relation(self.first, self.second).is_related() {
+            return Err(Cause::SamePair);
         }
         if self.relation == Relation::Peer && self.second < self.first {
-            return Some(Cause::PeersTurned);
+            return Err(Cause::PeersTurned);
         }
         if self.first == self.second {
-            return Some(Cause::Itself);
+            return Err(Cause::Itself);
         }
-        None
+        Ok(())
     }
 
     // Whether the tie comes after another in rising order of the first and then the second number.
     fn follows(self, before: Tie) -> bool
         ensures { result ≡ rises before.first before.second self.first self.second }
     {
-        before.first < self.first || before.first == self.first && before.second < self.second
+        (before.first, before.second) < (self.first, self.second)
     }
 }

@@ -1,7 +1,7 @@
 // What a network goes by, of what its neighbours told.
 use cycles::sound;
 use relations::{Matrix, Relation, Relations};
-use selection::{PathTable, Route, select};
+use selection::{Node, PathTable, Route, select};
 use std::alloc::AllocError;
 use std::test::Fail;
 
@@ -38,7 +38,12 @@ fn neighbour(route: Route) -> Option<u8> {
 fn chosen(rt: HostRuntime, up: bool, paths: &[&[u8]]) -> Result<Option<u8>, Fail> {
     let relations = sixth(rt)?;
     let table = told(rt, paths)?;
-    Ok(neighbour(select(&relations, &[up, true, true, true], &table, 4, 0, 5)))
+    let node = Node {
+        relations: &relations,
+        up: &[up, true, true, true],
+        me: 4,
+    };
+    Ok(neighbour(select(node, &table, 0, 5)))
 }
 
 #[test]
@@ -69,6 +74,11 @@ fn the_order_of_choosing(rt: HostRuntime) -> Result<(), Fail> {
 fn the_home(rt: HostRuntime) -> Result<(), Fail> {
     let relations = sixth(rt)?;
     let table = told(rt, &[&[0, 5]])?;
-    assert!(rt; matches!(select(&relations, &[true], &table, 4, 0, 4), Route::Local));
+    let node = Node {
+        relations: &relations,
+        up: &[true],
+        me: 4,
+    };
+    assert!(rt; matches!(select(node, &table, 0, 4), Route::Local));
     Ok(())
 }

@@ -65,7 +65,7 @@ fn a_ring_is_told(rt: HostRuntime) -> Result<(), Fail> {
     let Err(refusal) = ties::read(&file, MOST, rt.alloc()) else {
         return Err(Fail::new("not refused"));
     };
-    let line = refusal.describe(rt.alloc())?;
+    let line = refusal.to_string(rt.alloc())?;
     assert!(rt; line.as_str() == "fault 5 at end: a ring of customers: 1, 2, 3");
     Ok(())
 }

@@ -2,7 +2,7 @@
 use advertisement::{Audience, advertise, tell};
 use cycles::sound;
 use relations::{Matrix, Relation, Relations};
-use selection::{PathTable, Route};
+use selection::{Node, PathTable, Route};
 use std::test::Fail;
 
 // Network 0 has the customer 1, the provider 2 and the peer 3.
@@ -14,9 +14,18 @@ fn ties(rt: HostRuntime) -> Result<Relations, Fail> {
     Ok(sound(matrix, rt.alloc()).ok().ok_or("a cycle")?)
 }
 
+// Network 0 with its links up.
+fn node(ties: &Relations) -> Node {
+    Node {
+        relations: ties,
+        up: &[true; 4],
+        me: 0,
+    }
+}
+
 // Tells the provider a path of the customer's. Was there something new?
 fn told(ties: &Relations, table: &mut PathTable, path: &[u8]) -> bool {
-    tell(ties, table, 0, 0, Route::Via { neighbour: 1, path }, 2)
+    tell(node(ties), table, 0, Route::Via { neighbour: 1, path }, 2)
 }
 
 #[test]
@@ -42,7 +51,7 @@ fn what_is_taken_back(rt: HostRuntime) -> Result<(), Fail> {
     assert!(rt; told(&ties, &mut table, &[1, 9]));
     let path: &[u8] = &[3, 9];
     let peers = Route::Via { neighbour: 3, path };
-    let whom = advertise(&ties, &[true; 4], &mut table, 0, 0, peers);
+    let whom = advertise(node(&ties), &mut table, 0, peers);
     assert_eq!(rt; all(whom), (true, true, false));
     assert!(rt; table.path(0, 2).is_none());
     Ok(())

@@ -1,4 +1,4 @@
-// A reader of bytes: what it has read, and how far it came.
+// A reader of bytes: what it has read, and how far it came, by which its contracts tell.
 ghost use Rattle.std.specs.Prelude.{◌≡◌, ◌+◌, ◌<◌, ◌≤◌, length, MatchOption, nat_le, slice_index};
 ghost use Rattle.wire.specs.Reading.{input, place, word16};
 
@@ -22,10 +22,7 @@ impl<'a> Reader<'a> {
         ensures source { input self.new ≡ input self.old }
         ensures cases { MatchOption result ((length (input self.old) ≤ place self.old) × (place self.new ≡ place self.old)) (λ b. (place self.old < length (input self.old)) × (b ≡ slice_index (input self.old) (place self.old)) × (place self.new ≡ place self.old + 1)) }
     {
-        if self.at >= self.bytes.len() {
-            return None;
-        }
-        let byte = self.bytes[self.at];
+        let byte = *self.bytes.get(self.at)?;
         self.at += 1;
         Some(byte)
     }
@@ -35,15 +32,10 @@ impl<'a> Reader<'a> {
         ensures source { input self.new ≡ input self.old }
         ensures cases { MatchOption result ((length (input self.old) < place self.old + 2) × (place self.new ≡ place self.old)) (λ w. (place self.old + 2 ≤ length (input self.old)) × (w ≡ word16 (input self.old) (place self.old)) × (place self.new ≡ place self.old + 2)) }
     {
-        let start = self.at;
-        let Some(high) = self.byte() else {
-            return None;
-        };
-        let Some(low) = self.byte() else {
-            self.at = start;
-            return None;
-        };
-        Some(u16::from(high) * 256 + u16::from(low))
+        let high = *self.bytes.get(self.at)?;
+        let low = *self.bytes.get(self.at + 1)?;
+        self.at += 2;
+        Some(u16::from_be_bytes([high, low]))
     }
 
     // Whether every byte is read.

@@ -1,108 +1,102 @@
 // Hearing an update.
-ghost use Rattle.std.specs.Prelude.{◌≡◌, ℕ, ◌<◌, true, Some, None, vec_len};
+ghost use Rattle.std.specs.Prelude.{◌≡◌, ℕ, ◌<◌, true, OnErr, vec_len};
 ghost use Rattle.relations.specs.Sound.{relation as relation_of};
 ghost use Rattle.selection.specs.Paths.{count, row};
 ghost use Rattle.selection.specs.Rows.{with_row};
 ghost use Rattle.advertisement.specs.Audiences.{in_audience};
 ghost use Rattle.advertisement.specs.declared.update.Update.TheVariants.{Announce};
-ghost use Rattle.links.specs.Answers.{Answered, IfRefused};
+ghost use Rattle.links.specs.Answers.{Answered, Refuses};
 ghost use Rattle.links.specs.Held.{announcement, fits, held, news, then_held, world};
 ghost use Rattle.links.specs.Hearing.{after_hearing, hearing_fault, only, teller_has, told, way_has};
 ghost use Rattle.links.specs.Local.{retold, sends};
 
-use crate::fault::{Fault, Heard};
+use crate::fault::Fault;
 use crate::paths::{begins, below, ends, is_valley_free, repeats};
 use crate::router::Router;
 use crate::tables::Tables;
 use advertisement::{Announcement, Audience, Update};
-use relations::{Relation, Relations};
+use relations::Relations;
 use selection::{PathTable, is_up};
 
-// What is wrong with the way of a path for the block of `home` that network `me` hears from `from`.
-fn way_fault(relations: &Relations, me: u8, from: u8, home: u8, path: &[u8]) -> Option<Fault>
-    ensures { result ≡ told (way_has (relation_of relations.now) me from home path.now) }
+// Refuses the way of a path for the block of `home` that network `me` hears from `from`, if something is wrong with it.
+fn check_way(relations: &Relations, me: u8, from: u8, home: u8, path: &[u8]) -> Result<(), Fault>
+    ensures { Refuses (told (way_has (relation_of relations.now) me from home path.now)) result }
 {
     if !begins(path, from) {
-        return Some(Fault::WrongStart);
+        return Err(Fault::WrongStart);
     }
     if !ends(path, home) {
-        return Some(Fault::WrongEnd);
+        return Err(Fault::WrongEnd);
     }
     if repeats(path) {
-        return Some(Fault::Repeats);
+        return Err(Fault::Repeats);
     }
     if !is_valley_free(relations, me, path) {
-        return Some(Fault::NotPaid);
+        return Err(Fault::NotPaid);
     }
-    None
+    Ok(())
 }
 
 impl Router {
-    // What is wrong with the teller of an update of a block: it is not there, not related, or its link is down.
-    fn teller_fault(
+    // Refuses the teller of an update of a block that is not there, not related, or whose link is down.
+    fn check_teller(
         self,
         relations: &Relations,
         tables: &Tables,
         from: u8,
         block: u16,
-    ) -> Option<Fault>
-        ensures { result ≡ told (teller_has (world relations.now tables.now) self.number (held self tables.now) from block) }
+    ) -> Result<(), Fault>
+        ensures { Refuses (told (teller_has (world relations.now tables.now) self.number (held self tables.now) from block)) result }
     {
         if from >= relations.networks() {
-            return Some(Fault::NoSuchNetwork);
+            return Err(Fault::NoSuchNetwork);
         }
-        if block as usize >= tables.homes.len() {
-            return Some(Fault::NoSuchBlock);
+        if block >= tables.blocks() {
+            return Err(Fault::NoSuchBlock);
         }
-        if matches!(relations.relation(self.number, from), Relation::Unrelated) {
-            return Some(Fault::NotRelated);
+        if !relations.relation(self.number, from).is_related() {
+            return Err(Fault::NotRelated);
         }
         if !is_up(&self.up, from) {
-            return Some(Fault::LinkDown);
+            return Err(Fault::LinkDown);
         }
-        None
+        Ok(())
     }
 
-    // What is wrong with an announcement: its path, its teller, or the way of the path.
-    fn announcement_fault(
+    // Refuses an announcement, if something is wrong with its path, its teller, or the way of the path.
+    fn check_announcement(
         self,
         relations: &Relations,
         tables: &Tables,
         from: u8,
         announced: &Announcement,
-    ) -> Option<Fault>
-        ensures { result ≡ hearing_fault (world relations.now tables.now) self.number (held self tables.now) from (announcement announced.now) }
+    ) -> Result<(), Fault>
+        ensures { Refuses (hearing_fault (world relations.now tables.now) self.number (held self tables.now) from (announcement announced.now)) result }
     {
-        let Some(path) = announced.path() else {
-            return Some(Fault::BadLength);
-        };
+        let path = announced.path().ok_or(Fault::BadLength)?;
         if !below(path, relations.networks()) {
-            return Some(Fault::NoSuchNetwork);
+            return Err(Fault::NoSuchNetwork);
         }
-        if let Some(fault) = self.teller_fault(relations, tables, from, announced.block) {
-            return Some(fault);
-        }
-        let Some(home) = tables.home(announced.block) else {
-            return Some(Fault::NoSuchBlock);
-        };
-        way_fault(relations, self.number, from, home, path)
+        self.check_teller(relations, tables, from, announced.block)?;
+        let home = tables.home(announced.block).ok_or(Fault::NoSuchBlock)?;
+        check_way(relations, self.number, from, home, path)
     }
 
-    // What is wrong with an update from a neighbour: of its faults the one with the lowest number.
-    fn fault(
+    // Refuses an update from a neighbour, if something is wrong with it: of its faults the one with the lowest number.
+    fn check(
         self,
         relations: &Relations,
         tables: &Tables,
         from: u8,
         update: &Update,
-    ) -> Option<Fault>
-        ensures { result ≡ hearing_fault (world relations.now tables.now) self.number (held self tables.now) from (news update.now) }
+    ) -> Result<(), Fault>
+        ensures { Refuses (hearing_fault (world relations.now tables.now) self.number (held self tables.now) from (news update.now)) result }
     {
         match update {
-            Update::Announce(announced) => self.announcement_fault(
+            Update::Announce(announced) => self.check_announcement(
                 relations, tables, from, announced,
             ),
-            Update::Withdraw { block } => self.teller_fault(relations, tables, from, *block),
+            Update::Withdraw { block } => self.check_teller(relations, tables, from, *block),
         }
     }
 
@@ -134,19 +128,19 @@ impl Router {
         tables: &mut Tables,
         from: u8,
         update: Update,
-    ) -> (Router, Heard)
+    ) -> (Router, Result<Audience, Fault>)
         ensures router { result.0 ≡ self }
         ensures homes { tables.new.homes ≡ tables.old.homes }
         ensures audiences { tables.new.audiences ≡ tables.old.audiences }
         ensures held { held self tables.new ≡ after_hearing (world relations.now tables.old) self.number from (news update) (held self tables.old) }
         ensures answer { Answered (world relations.now tables.old) self.number (held self tables.old) from (news update) result.1 }
-        ensures kept { IfRefused result.1 (tables.new ≡ tables.old) }
+        ensures kept { OnErr result.1 (tables.new ≡ tables.old) }
     {
-        if let Some(fault) = self.fault(relations, tables, from, &update) {
-            return (self, Heard::Refused(fault));
+        if let Err(fault) = self.check(relations, tables, from, &update) {
+            return (self, Err(fault));
         }
         let audience = self.take(relations, tables, update.block(), from, &update);
-        (self, Heard::Taken(audience))
+        (self, Ok(audience))
     }
 }
 

@@ -10,9 +10,9 @@ use crate::router::Router;
 use crate::tables::Tables;
 use advertisement::{Audience, advertise};
 use relations::Relations;
-use selection::{Route, select};
+use selection::{Node, Route, select};
 
-// Every link up, or every link down.
+// Every link up, or every link down. The array stands apart, since its clause is proved here without an answer.
 fn links(up: bool) -> [bool; 64]
     ensures { result ≡ replicate 64 up }
 {
@@ -38,14 +38,12 @@ impl Router {
         let Some(home) = tables.home(block) else {
             return Route::Nothing;
         };
-        select(
+        let node = Node {
             relations,
-            &self.up,
-            &tables.received,
-            self.number,
-            block,
-            home,
-        )
+            up: &self.up,
+            me: self.number,
+        };
+        select(node, &tables.received, block, home)
     }
 
     // Selects anew for a block and tells: the answer names the neighbours to whom what now stands in the table goes.
@@ -58,21 +56,12 @@ impl Router {
         ensures whom { (k : ℕ) → in_audience result k ≡ sends (world relations.now tables.old) self.number (only block) (then_held self tables.new tables.old) block k }
     {
         let home = tables.homes[block as usize];
-        let route = select(
+        let node = Node {
             relations,
-            &self.up,
-            &tables.received,
-            self.number,
-            block,
-            home,
-        );
-        advertise(
-            relations,
-            &self.up,
-            &mut tables.advertised,
-            self.number,
-            block,
-            route,
-        )
+            up: &self.up,
+            me: self.number,
+        };
+        let route = select(node, &tables.received, block, home);
+        advertise(node, &mut tables.advertised, block, route)
     }
 }

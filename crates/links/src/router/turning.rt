@@ -1,30 +1,26 @@
 // A link that turns.
-ghost use Rattle.std.specs.Prelude.{◌≡◌, ℕ, ◌<◌, Bool, None, vec_len};
+ghost use Rattle.std.specs.Prelude.{◌≡◌, ℕ, ◌<◌, Bool, None, OnErr, vec_len};
 ghost use Rattle.selection.specs.Paths.{row};
 ghost use Rattle.selection.specs.Rows.{with_row};
-ghost use Rattle.links.specs.Answers.{IfKept, TurnAnswered, ToldAll};
+ghost use Rattle.links.specs.Answers.{TurnAnswered, ToldAll};
 ghost use Rattle.links.specs.Held.{held, links_up, world};
 ghost use Rattle.links.specs.Hearing.{after_turning, every};
 ghost use Rattle.links.specs.Local.{at, retold};
 
-use crate::fault::{Fault, Turned};
+use crate::fault::Fault;
 use crate::router::Router;
 use crate::tables::Tables;
-use relations::{Relation, Relations};
+use relations::Relations;
 
 impl Router {
     // The router with one link up or down.
-    fn with_link(self, other: u8, up: bool) -> Router
+    fn with_link(mut self, other: u8, up: bool) -> Router
         requires { other < 64 }
         ensures number { result.number ≡ self.number }
         ensures links { (k : ℕ) → links_up result k ≡ at other up (links_up self) k }
     {
-        let mut links = self.up;
-        links[other as usize] = up;
-        Router {
-            number: self.number,
-            up: links,
-        }
+        self.up[other as usize] = up;
+        self
     }
 
     // Selects anew for every block and tells, block by block.
@@ -33,7 +29,7 @@ impl Router {
         ensures held { held self tables.new ≡ retold (world relations.now tables.old) self.number every (held self tables.old) }
         ensures whom { ToldAll (world relations.now tables.old) self.number (held self tables.old) tables.new.audiences.items (vec_len tables.old.homes) }
     {
-        for block in 0..tables.homes.len() as u16 {
+        for block in 0..tables.blocks() {
             let audience = self.retell(relations, tables, block);
             tables.audiences[block as usize] = audience;
         }
@@ -47,23 +43,23 @@ impl Router {
         tables: &mut Tables,
         other: u8,
         up: bool,
-    ) -> (Router, Turned)
+    ) -> (Router, Result<(), Fault>)
         ensures number { result.0.number ≡ self.number }
         ensures homes { tables.new.homes ≡ tables.old.homes }
         ensures held { held result.0 tables.new ≡ after_turning (world relations.now tables.old) self.number other up (held self tables.old) }
         ensures answer { TurnAnswered (world relations.now tables.old) self.number (held self tables.old) other up tables.new.audiences.items result.1 }
-        ensures kept { IfKept result.1 ((result.0 ≡ self) × (tables.new ≡ tables.old)) }
+        ensures kept { OnErr result.1 ((result.0 ≡ self) × (tables.new ≡ tables.old)) }
     {
         if other >= relations.networks() {
-            return (self, Turned::Refused(Fault::NoSuchNetwork));
+            return (self, Err(Fault::NoSuchNetwork));
         }
-        if matches!(relations.relation(self.number, other), Relation::Unrelated) {
-            return (self, Turned::Refused(Fault::NoLink));
+        if !relations.relation(self.number, other).is_related() {
+            return (self, Err(Fault::NoLink));
         }
         let router = self.with_link(other, up);
         forget(tables, other);
         router.retell_all(relations, tables);
-        (router, Turned::Taken)
+        (router, Ok(()))
     }
 }
 
@@ -83,8 +79,7 @@ fn forget(tables: &mut Tables, other: u8)
     ensures received { (b k : ℕ) → row tables.new.received b k ≡ at other None (row tables.old.received b) k }
     ensures advertised { (b k : ℕ) → row tables.new.advertised b k ≡ at other None (row tables.old.advertised b) k }
 {
-    let blocks = tables.homes.len() as u16;
-    for block in 0..blocks {
+    for block in 0..tables.blocks() {
         forget_block(tables, block, other);
     }
 }

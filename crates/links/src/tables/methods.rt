@@ -6,18 +6,15 @@ ghost use Rattle.links.specs.Made.{Fresh, Same};
 
 use crate::tables::Tables;
 use advertisement::{Audience, Update, update_of};
-use selection::PathTable;
+use selection::{MOST_BLOCKS, PathTable};
 use std::alloc::{AllocError, Global};
-
-// The most blocks that there may be.
-const MOST_BLOCKS: usize = 256;
 
 impl Tables {
     // Nothing was received or advertised. None for more than 256 blocks.
     pub fn new(heap: Global, homes: &[u8]) -> Result<Option<Tables>, AllocError>
         ensures { IfOk result (λ o. Fresh homes.now o) }
     {
-        if homes.len() > MOST_BLOCKS {
+        if homes.len() > MOST_BLOCKS as usize {
             return Ok(None);
         }
         let blocks = homes.len() as u16;
@@ -33,14 +30,14 @@ impl Tables {
         }))
     }
 
-    // Tables of their own that hold the same.
+    // Tables of their own that hold the same. Beside a ghost field `Clone` is not derived.
     pub fn duplicate(&self, heap: Global) -> Result<Tables, AllocError>
         ensures { IfOk result (Same self.now) }
     {
-        let homes = self.homes.as_slice().to_vec(heap)?;
+        let homes = self.homes.to_vec(heap)?;
         let received = self.received.duplicate(heap)?;
         let advertised = self.advertised.duplicate(heap)?;
-        let audiences = self.audiences.as_slice().to_vec(heap)?;
+        let audiences = self.audiences.to_vec(heap)?;
         Ok(Tables {
             homes,
             received,
@@ -60,12 +57,7 @@ impl Tables {
     pub fn audience(&self, block: u16) -> Option<Audience>
         ensures { MatchOption result (vec_len self.now.homes ≤ block) (λ a. (block < vec_len self.now.homes) × (a ≡ slice_index_or self.now.audiences.items block a)) }
     {
-        let at = block as usize;
-        if at < self.audiences.len() {
-            Some(self.audiences[at])
-        } else {
-            None
-        }
+        self.audiences.get(block as usize).copied()
     }
 
     // What was told a neighbour last of a block, as the update that tells it.
@@ -80,11 +72,6 @@ impl Tables {
     pub fn home(&self, block: u16) -> Option<u8>
         ensures { result ≡ (if nat_lt block (vec_len self.now.homes) then Some (slice_index self.now.homes.items block) else None) }
     {
-        let at = block as usize;
-        if at < self.homes.len() {
-            Some(self.homes[at])
-        } else {
-            None
-        }
+        self.homes.get(block as usize).copied()
     }
 }

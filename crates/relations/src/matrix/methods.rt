@@ -7,21 +7,15 @@ use crate::matrix::Matrix;
 use crate::relation::{MOST, Relation};
 use std::alloc::{AllocError, Global};
 
-// The number of networks, 64 where it is above that.
-fn at_most(networks: u8) -> u8
-    ensures { result ≡ min networks 64 }
-{
-    networks.min(MOST)
-}
-
 impl Matrix {
     // No network is related to another. Of more than 64 networks the first 64 are taken.
     pub fn new(heap: Global, networks: u8) -> Result<Matrix, AllocError>
-        ensures { IfOk result (λ m. (count m ≡ min networks 64) × ((i j : ℕ) → rel m i j ≡ unrelated i j)) }
+        ensures count { IfOk result (λ m. count m ≡ min networks 64) }
+        ensures none { IfOk result (λ m. (i j : ℕ) → rel m i j ≡ unrelated i j) }
     {
-        let rows = vec![in heap; Relation::Unrelated; 4096]?;
+        let rows = vec![in heap; [Relation::Unrelated; 64]; 64]?;
         Ok(Matrix {
-            networks: at_most(networks),
+            networks: networks.min(MOST),
             rows,
         })
     }
@@ -40,11 +34,11 @@ impl Matrix {
         if i >= MOST || j >= MOST {
             return Relation::Unrelated;
         }
-        self.rows[i as usize * 64 + j as usize]
+        self.rows[i as usize][j as usize]
     }
 
     // From now on network j is `relation` to network i, and i the opposite to j. False, and nothing done, for a
-    // network and itself and for networks that there are not.
+    // network and itself and for networks that there are not: a test as of a set's `insert`, no error that one passes on.
     pub fn relate(&mut self, i: u8, j: u8, relation: Relation) -> bool
         ensures test { result ≡ (nat_lt i (count self.old) && nat_lt j (count self.old) && not (i == j)) }
         ensures same { count self.new ≡ count self.old }
@@ -53,8 +47,8 @@ impl Matrix {
         if i >= self.networks || j >= self.networks || i == j {
             return false;
         }
-        self.rows[i as usize * 64 + j as usize] = relation;
-        self.rows[j as usize * 64 + i as usize] = relation.opposite();
+        self.rows[i as usize][j as usize] = relation;
+        self.rows[j as usize][i as usize] = relation.opposite();
         true
     }
 }

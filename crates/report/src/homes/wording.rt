@@ -1,9 +1,10 @@
 // A refusal of homes in words.
-ghost use Rattle.std.specs.Prelude.{◌≡◌, IfOk, string_bytes};
+ghost use Rattle.std.specs.Prelude.{◌≡◌, Some};
 ghost use Rattle.report.specs.Homes.{cause_words, number as number_of, refusal_words};
 
 use crate::homes::{HomeCause, HomeRefusal};
-use std::alloc::{AllocError, Global};
+use std::error::Error;
+use std::fmt;
 
 impl HomeCause {
     // The number of the fault.
@@ -27,20 +28,25 @@ impl HomeCause {
     }
 }
 
-impl HomeRefusal {
-    // The line that tells of the refusal. Only want of memory is an error.
-    pub fn describe(&self, heap: Global) -> Result<String, AllocError>
-        ensures { IfOk result (λ text. string_bytes text ≡ refusal_words self.now) }
-    {
-        let mut out = String::new(heap);
-        match self {
-            HomeRefusal::Fault { place, cause } => {
-                let number = cause.number();
-                let text = cause.text();
-                write!(out, "fault {number} at home {place}: {text}")?;
-            }
-            HomeRefusal::Memory => write!(out, "out of memory")?,
-        }
-        Ok(out)
+impl fmt::Display for HomeCause {
+    ghost output = { λ cause. Some (cause_words cause) };
+
+    fn fmt<W: fmt::Write>(&self, f: &mut fmt::Formatter<W>) -> fmt::Result {
+        f.write_str(self.text())
     }
 }
+
+impl fmt::Display for HomeRefusal {
+    ghost output = { λ refusal. Some (refusal_words refusal) };
+
+    fn fmt<W: fmt::Write>(&self, f: &mut fmt::Formatter<W>) -> fmt::Result {
+        match self {
+            HomeRefusal::Fault { place, cause } => {
+                write!(f, "fault {} at home {place}: {cause}", cause.number())
+            }
+            HomeRefusal::Memory => f.write_str("out of memory"),
+        }
+    }
+}
+
+impl Error for HomeRefusal {}

@@ -29,19 +29,18 @@ impl<'a> Script<'a> {
 
     // Reads on to the next command or fault, which `line` then tells the line of. At the end there is none.
     pub fn next(&mut self, limits: Limits) -> Result<Option<Command>, Cause>
-        ensures answer { result ≡ (ahead limits.networks limits.blocks (line_of self.old) (left_of self.old)).answer }
-        ensures line { line_of self.new ≡ (ahead limits.networks limits.blocks (line_of self.old) (left_of self.old)).line }
-        ensures left { left_of self.new ≡ (ahead limits.networks limits.blocks (line_of self.old) (left_of self.old)).left }
-        ensures whole { entries limits.networks limits.blocks (line_of self.old) (left_of self.old) ≡ headed result (line_of self.new) (entries limits.networks limits.blocks (line_of self.new) (left_of self.new)) }
-        ensures within { Bounded limits.networks limits.blocks result }
+        ensures answer { result ≡ (ahead limits (line_of self.old) (left_of self.old)).answer }
+        ensures line { line_of self.new ≡ (ahead limits (line_of self.old) (left_of self.old)).line }
+        ensures left { left_of self.new ≡ (ahead limits (line_of self.old) (left_of self.old)).left }
+        ensures whole { entries limits (line_of self.old) (left_of self.old) ≡ headed result (line_of self.new) (entries limits (line_of self.new) (left_of self.new)) }
+        ensures within { Bounded limits result }
         ensures falls { Falls result (length (left_of self.old)) (length (left_of self.new)) }
     {
         while !self.rest.is_empty() {
             let line = self.take_line();
-            let Some(command) = read_line(line, limits)? else {
-                continue;
-            };
-            return Ok(Some(command));
+            if let Some(command) = read_line(line, limits)? {
+                return Ok(Some(command));
+            }
         }
         Ok(None)
     }

@@ -3,14 +3,14 @@ ghost use Rattle.std.specs.Prelude.{◌≡◌, ◌+◌, ◌<◌, length, drop};
 ghost use Rattle.script.specs.Next.{left_of, line_of};
 ghost use Rattle.script.specs.Parts.{before, from, is_feed};
 
-use crate::cut::{Stop, cut};
+use crate::cut::cut;
 use crate::script::Script;
 
 // What follows a line feed, if there is one.
 fn after_feed(rest: &[u8]) -> &[u8]
     ensures { result.now ≡ drop 1 rest.now }
 {
-    if rest.is_empty() { rest } else { &rest[1..] }
+    rest.get(1..).unwrap_or(rest)
 }
 
 impl<'a> Script<'a> {
@@ -21,7 +21,7 @@ impl<'a> Script<'a> {
         ensures left { left_of self.new ≡ drop 1 (from is_feed (left_of self.old)) }
         ensures line { line_of self.new ≡ line_of self.old + 1 }
     {
-        let (text, rest) = cut(self.rest, Stop::Feed);
+        let (text, rest) = cut(self.rest, |byte| byte == b'\n');
         *self = Script {
             rest: after_feed(rest),
             line: self.line + 1,

@@ -1,15 +1,16 @@
 // Making, reading and writing the table.
-ghost use Rattle.std.specs.Prelude.{◌≡◌, ℕ, ◌+◌, ◌*◌, ◌<◌, ◌≤◌, min, ◌&&◌, ◌∷◌, length, IfOk, Some, None, MatchBool, nat_le, nat_lt, slice_index};
+ghost use Rattle.std.specs.Prelude.{◌≡◌, ℕ, ◌+◌, ◌≤◌, min, ◌&&◌, ◌∷◌, ◌++◌, length, IfOk, Some, None, MatchBool, nat_le, nat_lt};
 ghost use Rattle.std.specs.Option.{option_map};
 ghost use Rattle.selection.specs.Paths.{count, row};
 ghost use Rattle.selection.specs.Rows.{said, with_row};
 
 use crate::table::PathTable;
+use crate::table::row::Row;
 use relations::MOST;
 use std::alloc::{AllocError, Global};
 
 // The most blocks that a table has rows for.
-const MOST_BLOCKS: u16 = 256;
+pub const MOST_BLOCKS: u16 = 256;
 
 impl PathTable {
     // No path is told. Of more than 256 blocks the first 256 are taken.
@@ -19,67 +20,47 @@ impl PathTable {
         PathTable::empty(heap, blocks.min(MOST_BLOCKS))
     }
 
+    // The same of at most 256 blocks.
     fn empty(heap: Global, blocks: u16) -> Result<PathTable, AllocError>
         requires { blocks ≤ 256 }
         ensures { IfOk result (λ t. (count t ≡ blocks) × ((b j : ℕ) → row t b j ≡ None)) }
     {
-        let lengths = vec![in heap; 0; blocks as usize * 64]?;
-        let cells = vec![in heap; 0; blocks as usize * 4096]?;
-        Ok(PathTable {
-            blocks,
-            lengths,
-            cells,
-        })
+        let blocks = vec![in heap; [Row::empty(); 64]; blocks as usize]?;
+        Ok(PathTable { blocks })
     }
 
-    // A table of its own that says the same.
+    // A table of its own that says the same. Beside a ghost field `Clone` is not derived, and written by hand it is no
+    // shorter: its promise would stand in a ghost member, and it takes no allocator.
     pub fn duplicate(&self, heap: Global) -> Result<PathTable, AllocError>
         ensures { IfOk result (λ t. (count t ≡ count self.now) × ((b j : ℕ) → row t b j ≡ row self.now b j)) }
     {
-        let lengths = self.lengths.as_slice().to_vec(heap)?;
-        let cells = self.cells.as_slice().to_vec(heap)?;
-        Ok(PathTable {
-            blocks: self.blocks,
-            lengths,
-            cells,
-        })
+        let blocks = self.blocks.as_slice().to_vec(heap)?;
+        Ok(PathTable { blocks })
     }
 
     // How many blocks there are.
     pub fn blocks(&self) -> u16
         ensures { result ≡ count self.now }
     {
-        self.blocks
+        self.blocks.len() as u16
     }
 
     // The path for `block` that `neighbour` told, as the part of the table where it stands.
     pub fn path(&self, block: u16, neighbour: u8) -> Option<&[u8]>
         ensures { option_map (λ x. x.now) result ≡ row self.now block neighbour }
     {
-        if block >= self.blocks || neighbour >= MOST {
-            return None;
-        }
-        let row = block as usize * 64 + neighbour as usize;
-        let length = self.lengths[row] as usize;
-        if length == 0 {
-            return None;
-        }
-        let cells = self.cells.as_slice();
-        Some(&cells[row * 64..row * 64 + length])
+        let rows = self.blocks.get(block as usize)?;
+        rows.get(neighbour as usize)?.path()
     }
 
     // From now on `path` is the path for `block` that `neighbour` told. False, and nothing done, for a path of no
-    // network or of more than 64, and for a block or a neighbour that there is not.
+    // network or of more than 64, and for a block or a neighbour that there is not: a test as of a set's `insert`.
     pub fn set(&mut self, block: u16, neighbour: u8, path: &[u8]) -> bool
         ensures test { result ≡ (nat_lt block (count self.old) && nat_lt neighbour 64 && nat_lt 0 (length path.now) && nat_le (length path.now) 64) }
         ensures same { count self.new ≡ count self.old }
         ensures after { MatchBool result ((b j : ℕ) → row self.new b j ≡ with_row (row self.old) block neighbour (Some path.now) b j) (self.new ≡ self.old) }
     {
-        if block >= self.blocks || neighbour >= MOST || path.len() == 0 || path.len() > 64 {
-            return false;
-        }
-        self.write(block, neighbour, path);
-        true
+        !path.is_empty() && self.write(block, neighbour, &[], path)
     }
 
     // From now on `first`, followed by `path`, is the path for `block` that `neighbour` told. False, and nothing done,
@@ -89,66 +70,33 @@ impl PathTable {
         ensures same { count self.new ≡ count self.old }
         ensures after { MatchBool result ((b j : ℕ) → row self.new b j ≡ with_row (row self.old) block neighbour (Some (first ∷ path.now)) b j) (self.new ≡ self.old) }
     {
-        if block >= self.blocks || neighbour >= MOST || path.len() >= 64 {
-            return false;
-        }
-        self.write_in_front(block, neighbour, first, path);
-        true
+        self.write(block, neighbour, &[first], path)
     }
 
     // From now on `neighbour` told nothing for `block`.
+    #[tactic(auto, using(crate::proofs::Written::none_written))]
     pub fn clear(&mut self, block: u16, neighbour: u8)
         ensures same { count self.new ≡ count self.old }
         ensures after { (b j : ℕ) → row self.new b j ≡ with_row (row self.old) block neighbour None b j }
     {
-        if block >= self.blocks || neighbour >= MOST {
-            return;
+        self.write(block, neighbour, &[], &[]);
+    }
+
+    // Writes `head` and then `path` into the row of `block` and `neighbour`; of no network, nothing was told. False, and
+    // nothing done, where they are more than 64, and for a block or a neighbour that there is not.
+    #[tactic(auto, using(crate::proofs::Written::row_written))]
+    fn write(&mut self, block: u16, neighbour: u8, head: &[u8], path: &[u8]) -> bool
+        requires { length head.now ≤ 64 }
+        ensures test { result ≡ (nat_lt block (count self.old) && nat_lt neighbour 64 && nat_le (length head.now + length path.now) 64) }
+        ensures same { count self.new ≡ count self.old }
+        ensures after { MatchBool result ((b j : ℕ) → row self.new b j ≡ with_row (row self.old) block neighbour (said (head.now ++ path.now)) b j) (self.new ≡ self.old) }
+    {
+        if block >= self.blocks() || neighbour >= MOST || path.len() > 64 - head.len() {
+            return false;
         }
-        self.write(block, neighbour, &[]);
+        let rows = &mut self.blocks[block as usize];
+        let row = &mut rows[neighbour as usize];
+        row.write(head, path);
+        true
     }
-
-    // Writes the path into the row of `block` and `neighbour`; one of no network says that nothing was told.
-    fn write(&mut self, block: u16, neighbour: u8, path: &[u8])
-        requires there { (block < count self.old) × (neighbour < 64) }
-        requires fits { length path.now ≤ 64 }
-        ensures same { count self.new ≡ count self.old }
-        ensures after { (b j : ℕ) → row self.new b j ≡ with_row (row self.old) block neighbour (said path.now) b j }
-    {
-        let row = block as usize * 64 + neighbour as usize;
-        self.lengths[row] = path.len() as u8;
-        let cells = self.cells.as_mut_slice();
-        write_path(&mut cells[row * 64..row * 64 + 64], path);
-    }
-
-    // Writes `first` and then the path into the row of `block` and `neighbour`.
-    fn write_in_front(&mut self, block: u16, neighbour: u8, first: u8, path: &[u8])
-        requires there { (block < count self.old) × (neighbour < 64) }
-        requires fits { length path.now < 64 }
-        ensures same { count self.new ≡ count self.old }
-        ensures after { (b j : ℕ) → row self.new b j ≡ with_row (row self.old) block neighbour (Some (first ∷ path.now)) b j }
-    {
-        let row = block as usize * 64 + neighbour as usize;
-        self.lengths[row] = path.len() as u8 + 1;
-        let cells = self.cells.as_mut_slice();
-        write_front(&mut cells[row * 64..row * 64 + 64], first, path);
-    }
-}
-
-// Writes the path into the part, and zeros past it.
-fn write_path(part: &mut [u8], path: &[u8])
-    requires { length path.now ≤ length part.old }
-    ensures { (k : ℕ) → slice_index part.new k ≡ slice_index path.now k }
-{
-    for k in 0..part.len() {
-        part[k] = if k < path.len() { path[k] } else { 0 };
-    }
-}
-
-// Writes `first` and then the path into the part, and zeros past them.
-fn write_front(part: &mut [u8], first: u8, path: &[u8])
-    requires { length path.now < length part.old }
-    ensures { (k : ℕ) → slice_index part.new k ≡ slice_index (first ∷ path.now) k }
-{
-    part[0] = first;
-    write_path(&mut part[1..], path);
 }

@@ -1,13 +1,16 @@
 // Hearing what is in flight.
-ghost use Rattle.std.specs.Prelude.{◌≡◌, ◌<◌, ◌≤◌, true, length, MatchResult, OnOk, nat_lt, slice_set};
+ghost use Rattle.std.specs.Prelude.{◌≡◌, ◌<◌, ◌≤◌, true, length, IfOk, MatchResult, OnOk, nat_lt, slice_set};
 ghost use Rattle.simulation.specs.Simulated.{Aside, Ready, state_of, world_of};
 ghost use Rattle.simulation.specs.Resting.{Lessens};
 ghost use Rattle.simulation.specs.Steps.{Hears, NotHeard, both, hearing};
+ghost use Rattle.mail.specs.Posting.{Oldest};
 ghost use Rattle.mail.specs.Whole.{whole};
 
 use crate::cause::Cause;
 use crate::simulation::Simulation;
+use advertisement::Update;
 use mail::{Letter, Network, oldest, without};
+use std::alloc::AllocError;
 
 // The most letters that a hearing or a turn may leave in flight.
 const MOST_LETTERS: usize = 4096;
@@ -20,20 +23,34 @@ pub fn too_many(letters: &[Letter]) -> bool
 }
 
 impl Simulation {
+    // Network `to` as it is when it has heard the update at a place of the letters, the oldest from `from`, and what is left
+    // in flight then.
+    pub(crate) fn aside(
+        &self,
+        from: u8,
+        to: u8,
+        place: usize,
+        update: Update,
+    ) -> Result<(Network, Vec<Letter>), AllocError>
+        requires below { both (world_of self.now) from to ≡ true }
+        requires oldest { Oldest from to place update self.now.letters.items }
+        ensures { IfOk result (λ then. Aside self.now to (hearing (world_of self.now) from to (state_of self.now)) then.0 then.1.items) }
+    {
+        let mut letters = without(&self.letters, place, *self.letters.allocator())?;
+        let network = self.networks[to as usize].hear(&self.relations, from, update, &mut letters)?;
+        Ok((network, letters))
+    }
+
     // What is left in flight when network `to` has heard the oldest update from `from`, and that network as it is then.
-    pub(crate) fn heard(&self, from: u8, to: u8) -> Result<(Network, Vec<Letter>), Cause>
+    fn heard(&self, from: u8, to: u8) -> Result<(Network, Vec<Letter>), Cause>
         ensures { MatchResult result (λ then. (both (world_of self.now) from to ≡ true) × (0 < length ((state_of self.now).flight from to)) × Aside self.now to (hearing (world_of self.now) from to (state_of self.now)) then.0 then.1.items) (NotHeard (world_of self.now) from to (state_of self.now)) }
     {
         let networks = self.relations.networks();
         if from >= networks || to >= networks {
             return Err(Cause::NoSuchNetwork);
         }
-        let Some((place, update)) = oldest(self.letters.as_slice(), from, to) else {
-            return Err(Cause::NothingInFlight);
-        };
-        let mut letters = without(self.letters.as_slice(), place, *self.letters.allocator())?;
-        let network = self.networks[to as usize].hear(&self.relations, from, update, &mut letters)?;
-        Ok((network, letters))
+        let (place, update) = oldest(&self.letters, from, to).ok_or(Cause::NothingInFlight)?;
+        Ok(self.aside(from, to, place, update)?)
     }
 
     // A network and letters that were made aside take the place of those that there are.
@@ -53,7 +70,7 @@ impl Simulation {
         ensures falls { OnOk result (Lessens (world_of self.old) (state_of self.old) (state_of self.new)) }
     {
         let (network, letters) = self.heard(from, to)?;
-        if too_many(letters.as_slice()) {
+        if too_many(&letters) {
             return Err(Cause::TooMany);
         }
         self.place(to, network, letters);

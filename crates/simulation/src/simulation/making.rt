@@ -9,9 +9,9 @@ use relations::Relations;
 use std::alloc::{AllocError, Global};
 
 // The most networks and blocks that can be rehearsed.
-const MOST_NETWORKS: u8 = 16;
+pub const MOST_NETWORKS: u8 = 16;
 
-const MOST_BLOCKS: usize = 64;
+pub const MOST_BLOCKS: usize = 64;
 
 // A network with every link down, that received and advertised nothing.
 fn network(heap: Global, number: u8, homes: &[u8]) -> Result<Option<Network>, AllocError>

@@ -26,23 +26,16 @@ impl Simulation {
     pub fn home(&self, block: u16) -> Option<u8>
         ensures { result ≡ (if nat_lt block (world_of self.now).blocks then Some ((world_of self.now).home block) else None) }
     {
-        let at = block as usize;
-        if at < self.homes.len() {
-            Some(self.homes[at])
-        } else {
-            None
-        }
+        self.homes.get(block as usize).copied()
     }
 
     // What a network goes by for a block; nothing where there is no such network or block.
     pub fn route(&self, network: u8, block: u16) -> Route<'_>
         ensures { meaning result ≡ goes_by (world_of self.now) (state_of self.now) network block }
     {
-        let at = network as usize;
-        if at >= self.networks.len() {
+        let Some(network) = self.networks.get(network as usize) else {
             return Route::Nothing;
-        }
-        let network = &self.networks[at];
+        };
         network
             .router
             .route(&self.relations, &network.tables, block)

@@ -1,50 +1,33 @@
 // Hearing until nothing is in flight.
-ghost use Rattle.std.specs.Prelude.{◌≡◌, ℕ, MatchBool, MatchResult, OnOk};
+ghost use Rattle.std.specs.Prelude.{◌≡◌, ℕ, ◌<◌, true, [], length, MatchBool, MatchOption, MatchResult, OnOk, Some};
 ghost use Rattle.links.specs.Promise.{Settled};
 ghost use Rattle.links.specs.Run.{links as links_of};
+ghost use Rattle.mail.specs.Posting.{Oldest};
 ghost use Rattle.mail.specs.Posts.{posts};
-ghost use Rattle.simulation.specs.Resting.{Hearings, LowestOf, NextHeard, Still, lower as lower_by, lower_end};
+ghost use Rattle.simulation.specs.Resting.{Hearings, LowestEnds, LowestOf, NextHeard, Still};
 ghost use Rattle.simulation.specs.Simulated.{state_of, world_of};
+ghost use Rattle.simulation.specs.Steps.{both};
 
-use crate::cause::Cause;
 use crate::simulation::Simulation;
-use mail::Letter;
+use advertisement::Update;
+use mail::{Letter, oldest};
 use std::alloc::AllocError;
 
-// Whether one pair of networks comes before another.
-fn lower(a: u8, c: u8, i: u8, j: u8) -> bool
-    ensures { result ≡ lower_by a c i j }
-{
-    a < i || a == i && c < j
-}
-
-// The lower of a pair of networks, if there is one, and the ends of a letter.
-fn lowest_with(lowest: Option<(u8, u8)>, letter: Letter) -> (u8, u8)
-    ensures { result ≡ lower_end lowest letter }
-{
-    match lowest {
-        Some((i, j)) if !lower(letter.from, letter.to, i, j) => (i, j),
-        _ => (letter.from, letter.to),
-    }
-}
-
-// The lowest pair of networks that has a letter.
+// The lowest of the pairs of networks that have a letter.
 fn lowest(letters: &[Letter]) -> Option<(u8, u8)>
-    ensures { LowestOf (posts letters.now) result }
+    ensures { MatchOption result (length letters.now ≡ 0) (LowestEnds letters.now) }
 {
-    let mut lowest = None;
-    for letter in letters {
-        lowest = Some(lowest_with(lowest, *letter));
-    }
-    lowest
+    letters.iter().map(|letter| (letter.from, letter.to)).min()
 }
 
 impl Simulation {
-    // The lowest pair of networks that has something in flight.
-    fn next(&self) -> Option<(u8, u8)>
-        ensures { LowestOf (posts self.now.letters.items) result }
+    // The oldest of the lowest pair that has something in flight, with its place and its ends.
+    fn next(&self) -> Option<(u8, u8, usize, Update)>
+        ensures { MatchOption result (posts self.now.letters.items ≡ []) (λ found. (both (world_of self.now) found.0 found.1 ≡ true) × (0 < length ((state_of self.now).flight found.0 found.1)) × LowestOf (posts self.now.letters.items) (Some (found.0, found.1)) × Oldest found.0 found.1 found.2 found.3 self.now.letters.items) }
     {
-        lowest(self.letters.as_slice())
+        let (from, to) = lowest(&self.letters)?;
+        let (place, update) = oldest(&self.letters, from, to)?;
+        Some((from, to, place, update))
     }
 
     // The oldest of the lowest pair that has something in flight is heard; false where nothing is in flight.
@@ -52,16 +35,12 @@ impl Simulation {
         ensures world { world_of self.new ≡ world_of self.old }
         ensures heard { MatchResult result (λ more. MatchBool more (NextHeard (world_of self.old) (state_of self.old) (state_of self.new)) (Still (state_of self.old) × (self.new ≡ self.old))) (λ _. self.new ≡ self.old) }
     {
-        let Some((from, to)) = self.next() else {
+        let Some((from, to, place, update)) = self.next() else {
             return Ok(false);
         };
-        match self.heard(from, to) {
-            Ok((network, letters)) => {
-                self.place(to, network, letters);
-                Ok(true)
-            }
-            Err(_) => Err(AllocError),
-        }
+        let (network, letters) = self.aside(from, to, place, update)?;
+        self.place(to, network, letters);
+        Ok(true)
     }
 
     // Hears until nothing is in flight, always the oldest of the lowest pair that has something. Want of memory stops it

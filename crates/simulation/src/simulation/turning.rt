@@ -9,7 +9,6 @@ use crate::cause::Cause;
 use crate::simulation::Simulation;
 use crate::simulation::hearing::too_many;
 use mail::{Letter, Network, cut_link, turn_both};
-use relations::Relation;
 
 impl Simulation {
     // The two networks as they are when the link between them has turned, and what is in flight then.
@@ -20,15 +19,10 @@ impl Simulation {
         if one >= networks || other >= networks {
             return Err(Cause::NoSuchNetwork);
         }
-        if matches!(self.relations.relation(one, other), Relation::Unrelated) {
+        if !self.relations.relation(one, other).is_related() {
             return Err(Cause::NoLink);
         }
-        let mut letters = cut_link(
-            self.letters.as_slice(),
-            one,
-            other,
-            *self.letters.allocator(),
-        )?;
+        let mut letters = cut_link(&self.letters, one, other, *self.letters.allocator())?;
         let (first, second) = turn_both(
             &self.relations,
             &self.networks[one as usize],
@@ -47,7 +41,7 @@ impl Simulation {
         ensures played { MatchResult result (λ _. Turns (world_of self.old) one other up (state_of self.old) (state_of self.new)) (λ cause. NotTurned (world_of self.old) one other up (state_of self.old) cause × (self.new ≡ self.old)) }
     {
         let (first, second, letters) = self.turned(one, other, up)?;
-        if too_many(letters.as_slice()) {
+        if too_many(&letters) {
             return Err(Cause::TooMany);
         }
         self.networks[other as usize] = second;

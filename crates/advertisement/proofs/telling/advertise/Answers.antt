@@ -1,8 +1,8 @@
 -- One more neighbour is told, if its link is up.
-use Rattle.std.proofs.Common.{◌≡◌, ℕ, ◌<◌, Bool, false, ◌&&◌, ◌||◌, eqb, List, get_or, Option, refl, ap, ◌∙◌, subst, arith}
+use Rattle.std.proofs.Common.{◌≡◌, ℕ, ◌<◌, ◌&&◌, ◌||◌, eqb, List, Option, refl, ap, ◌∙◌, subst, arith}
 use Rattle.std.proofs.lemmas.Bool.Decides.{nat_tests as tests}
-use Rattle.relations.specs.Sound.{networks as networks_of, relation as relation_of}
 use Rattle.selection.specs.Choosing.{meaning}
+use Rattle.selection.specs.Nodes.{link_up, networks_around, relation_to}
 use Rattle.selection.specs.Paths.{count, row}
 use Rattle.advertisement.specs.Audiences.{in_audience}
 use Rattle.advertisement.specs.Telling.{tells, told}
@@ -14,11 +14,11 @@ pub loop-k-preserved : goal.loop-k-preserved
 loop-k-preserved c =
     let before = c.args.advertised.now in
     let k = c.loop-k.k in
-    let rel = relation_of c.args.relations.now c.args.me in
-    let up : ℕ → Bool = λ i. get_or c.args.up.now i false in
-    let says : ℕ → Option (List ℕ) = λ j. tells rel up c.args.me j (meaning c.args.route) in
-    let new = told rel c.args.me k (meaning c.args.route) in
-    let few = c.args.relations.now.matrix.few in
+    let rel = relation_to c.args.node in
+    let up = link_up c.args.node in
+    let says : ℕ → Option (List ℕ) = λ j. tells rel up c.args.node.me j (meaning c.args.route) in
+    let new = told rel c.args.node.me k (meaning c.args.route) in
+    let few = c.args.node.relations.now.matrix.few in
     let below : k < 64 = omega (arith, c.networks-k-end.ensures) in
     let adds : (j : ℕ) → in_audience c.if-tell_if_up.audience j ≡ (in_audience c.loop-k.audience j || (c.tell_if_up.result && eqb j k)) =
     elim c.if-tell_if_up.branch [
@@ -33,9 +33,9 @@ loop-k-preserved c =
 pub returns : goal.returns
 returns c =
     let before = c.args.advertised.now in
-    let up : ℕ → Bool = λ i. get_or c.args.up.now i false in
-    let says : ℕ → Option (List ℕ) = λ j. tells (relation_of c.args.relations.now c.args.me) up c.args.me j (meaning c.args.route) in
-    let all : c.loop-k.k ≡ networks_of c.args.relations.now = omega (arith, c.networks-k-end.ensures) in
+    let up = link_up c.args.node in
+    let says : ℕ → Option (List ℕ) = λ j. tells (relation_to c.args.node) up c.args.node.me j (meaning c.args.route) in
+    let all : c.loop-k.k ≡ networks_around c.args.node = omega (arith, c.networks-k-end.ensures) in
     record {
       rows = subst (λ k. Below (row before) (count before) c.args.block up says k (row c.loop-k.advertised)) all c.loop-k.invariant.0;
       whom = subst (λ k. Heard (row before) (count before) c.args.block up says k (in_audience c.loop-k.audience)) all c.loop-k.invariant.1;

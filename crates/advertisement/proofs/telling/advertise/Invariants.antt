@@ -1,7 +1,7 @@
 -- The neighbours below k are told, and no other.
-use Rattle.std.proofs.Common.{◌≡◌, ℕ, false, cond, not, ◌&&◌, eqb, ltb, get_or}
-use Rattle.relations.specs.Sound.{relation as relation_of}
+use Rattle.std.proofs.Common.{◌≡◌, ℕ, cond, not, ◌&&◌, eqb, ltb}
 use Rattle.selection.specs.Choosing.{meaning}
+use Rattle.selection.specs.Nodes.{link_up, relation_to}
 use Rattle.selection.specs.Paths.{count, row}
 use Rattle.advertisement.specs.Audiences.{in_audience}
 use Rattle.advertisement.specs.Sayings.{same_saying}
@@ -10,6 +10,6 @@ use Rattle.advertisement.proofs.telling.advertise.Given as goal
 
 abbrev pub invariant-loop-k : goal.invariant-loop-k
 invariant-loop-k l =
-    ((b j : ℕ) → row l.advertised b j ≡ cond (eqb b l.block && ltb b (count l.initial.advertised) && ltb j l.k && get_or l.up j false) (tells (relation_of l.relations l.me) (λ i. get_or l.up i false) l.me j (meaning l.route)) (row l.initial.advertised b j)) ×
-    ((j : ℕ) → in_audience l.audience j ≡ (ltb l.block (count l.initial.advertised) && ltb j l.k && get_or l.up j false && not (same_saying (tells (relation_of l.relations l.me) (λ i. get_or l.up i false) l.me j (meaning l.route)) (row l.initial.advertised l.block j)))) ×
+    ((b j : ℕ) → row l.advertised b j ≡ cond (eqb b l.block && ltb b (count l.initial.advertised) && ltb j l.k && link_up l.node j) (tells (relation_to l.node) (link_up l.node) l.node.me j (meaning l.route)) (row l.initial.advertised b j)) ×
+    ((j : ℕ) → in_audience l.audience j ≡ (ltb l.block (count l.initial.advertised) && ltb j l.k && link_up l.node j && not (same_saying (tells (relation_to l.node) (link_up l.node) l.node.me j (meaning l.route)) (row l.initial.advertised l.block j)))) ×
     (count l.advertised ≡ count l.initial.advertised)

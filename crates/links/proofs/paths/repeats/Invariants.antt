@@ -1,6 +1,10 @@
-use Rattle.std.proofs.Common.{◌≡◌, drop}
+-- What is left repeats a network as the whole does.
+use Rattle.std.proofs.Common.{◌≡◌, length}
 use Rattle.links.specs.Paths.{repeats}
 use Rattle.links.proofs.paths.repeats.Given as goal
 
-abbrev pub invariant-loop-k : goal.invariant-loop-k
-invariant-loop-k l = repeats (drop l.k l.path) ≡ repeats l.path
+abbrev pub invariant-loop-first : goal.invariant-loop-first
+invariant-loop-first l = repeats l.left ≡ repeats l.path
+
+abbrev pub decreases-loop-first : goal.decreases-loop-first
+decreases-loop-first l = length l.left

@@ -1,12 +1,18 @@
-use Rattle.std.proofs.Common.{length, refl, ap, ◌∙◌, arith}
-use Rattle.relations.specs.Sound.{relation}
+-- Those networks are counted with which network i stands first.
+use Rattle.std.proofs.Common.{length, ltb, ap, ◌∙◌, arith, rules, tests}
+use Rattle.std.specs.List.{filter, range_with_len}
+use Rattle.std.proofs.lemmas.Iterator.{YieldsList-from_range}
+use Rattle.std.proofs.lemmas.Iterator.Consumers.{YieldsList-at, YieldsList-from_filter, count_from_yields_List}
+use Rattle.relations.specs.Sound.{networks, relation}
 use Rattle.listing.specs.Encoding.{listed}
-use Rattle.relations.proofs.Gathered.{length_gather_more}
+use Rattle.listing.proofs.Written.{counted, length_listed}
 use Rattle.listing.proofs.account.count_row.Goals as goal
 
-pub loop-j-init : goal.loop-j-init
-loop-j-init c = (refl, omega arith)
-
-pub loop-j-preserved : goal.loop-j-preserved
-loop-j-preserved c =
-    (length_gather_more (λ j. listed (relation c.args.relations.now c.args.i j) c.args.i j) c.loop-j.j _ _ c.loop-j.invariant.0 (c.count_tie-count.ensures.0 ∙ ap (λ r. length (listed r c.args.i c.loop-j.j)) c.relation.ensures), omega (arith, c.loop-j.invariant.1, c.count_tie-count.ensures.1))
+pub returns : goal.returns
+returns c =
+    let r = c.args.relations.now in
+    let i = c.args.i in
+    let n = c.networks.result in
+    count_from_yields_List c.filter.result c.count.result c.count.ensures.ran (YieldsList-from_filter _ (λ j. ltb 0 (length (listed (relation r i j) i j))) (YieldsList-at c.filter.ensures.source (YieldsList-from_range 0 n n (cc) (omega arith))) c.filter.ensures.closure (λ x b q k. search (rules, tests))) ∙
+    ap (λ m. length (filter (λ j. ltb 0 (length (listed (relation r i j) i j))) (range_with_len 0 m))) c.networks.ensures ∙
+    counted (λ j. listed (relation r i j) i j) (networks r) (λ j. length_listed (relation r i j) i j)

@@ -1,12 +1,29 @@
-use Rattle.std.proofs.Common.{refl, arith}
+-- The counts of the rows add up to the whole.
+use Rattle.std.proofs.Common.{ℕ, ◌<◌, length, ap, ◌∙◌, arith, rules}
+use Rattle.std.specs.List.{range_with_len, sum_by}
+use Rattle.std.proofs.lemmas.Iterator.{YieldsList-from_range, YieldsList-from_map}
+use Rattle.std.proofs.lemmas.Iterator.Consumers.{YieldsList-at, fits_by_from_yields_list, sum_by_from_yields_List}
 use Rattle.relations.specs.Sound.{networks, relation}
+use Rattle.relations.specs.declared.sound.Relations.{Relations}
 use Rattle.listing.specs.Encoding.{row}
-use Rattle.relations.proofs.Gathered.{length_gather_more}
+use Rattle.listing.proofs.Written.{totalled, listing_short}
 use Rattle.listing.proofs.account.count_ties.Goals as goal
 
-pub loop-i-init : goal.loop-i-init
-loop-i-init c = (refl, omega arith)
+-- how many ties the row of network i has
+abbrev long : Relations → ℕ → ℕ
+long r i = length (row (networks r) (relation r) i)
 
-pub loop-i-preserved : goal.loop-i-preserved
-loop-i-preserved c =
-    (length_gather_more (row (networks c.args.relations.now) (relation c.args.relations.now)) c.loop-i.i _ _ c.loop-i.invariant.0 c.count_row-count.ensures.0, omega (arith, c.loop-i.invariant.1, c.count_row-count.ensures.1))
+pub sum-requires-clause-fits : goal.sum-requires-clause-fits
+sum-requires-clause-fits c =
+    let r = c.args.relations.now in
+    let n = c.networks.result in
+    let few : sum_by (long r) (range_with_len 0 n) < 65536 = omega (arith, ap (λ m. sum_by (long r) (range_with_len 0 m)) c.networks.ensures, totalled (row (networks r) (relation r)) (networks r), listing_short (networks r) (relation r)) in
+    fits_by_from_yields_list (long r) (range_with_len 0 n) c.map.result 65536 (YieldsList-from_map _ (long r) (YieldsList-at c.map.ensures.source (YieldsList-from_range 0 n n (cc) (omega arith))) c.map.ensures.closure (λ x b q k. search rules)) few
+
+pub returns : goal.returns
+returns c =
+    let r = c.args.relations.now in
+    let n = c.networks.result in
+    sum_by_from_yields_List (long r) (range_with_len 0 n) c.map.result c.sum.result c.sum.ensures.ran (YieldsList-from_map _ (long r) (YieldsList-at c.map.ensures.source (YieldsList-from_range 0 n n (cc) (omega arith))) c.map.ensures.closure (λ x b q k. search rules)) ∙
+    ap (λ m. sum_by (long r) (range_with_len 0 m)) c.networks.ensures ∙
+    totalled (row (networks r) (relation r)) (networks r)

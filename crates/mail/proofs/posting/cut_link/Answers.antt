@@ -1,10 +1,10 @@
-use Rattle.std.proofs.Common.{vec_items}
-use Rattle.mail.specs.Posts.{posts}
-use Rattle.mail.proofs.Posted.{cut_all, cut_more}
+-- What is kept of the letters is what is left of what they say.
+use Rattle.std.proofs.Common.{◌≡◌, not, ◌||◌, vec_items, ap, ◌∙◌, rules}
+use Rattle.std.specs.List.{filter}
+use Rattle.std.proofs.lemmas.Result.{IfOk-weaker}
+use Rattle.mail.specs.Posts.{goes, meant, posts}
+use Rattle.mail.proofs.Posted.{cut_is}
 use Rattle.mail.proofs.posting.cut_link.Goals as goal
 
-pub loop-letter-preserved : goal.loop-letter-preserved
-loop-letter-preserved c = cut_more c.args.one c.args.other c.loop-letter.letter-index c.args.letters.now _ (posts (vec_items c.loop-letter.left)) _ c.loop-letter-test.true c.in_ok-keep.ensures c.loop-letter.invariant
-
 pub returns : goal.returns
-returns c = cut_all c.args.one c.args.other c.loop-letter.letter-index c.args.letters.now _ c.loop-letter-test.false c.loop-letter.invariant
+returns c = IfOk-weaker c.collect.result (λ left. vec_items left ≡ filter (λ l. not (goes c.args.one c.args.other (meant l) || goes c.args.other c.args.one (meant l))) c.args.letters.now) _ (λ left e. ap posts e ∙ cut_is c.args.one c.args.other c.args.letters.now) (search rules)

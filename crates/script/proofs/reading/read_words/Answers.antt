@@ -1,24 +1,21 @@
 -- The first word names the command.
-use Rattle.std.proofs.Common.{◌≡◌, Err, sym, ap, ◌∙◌}
-use Rattle.std.proofs.lemmas.Result.{err_from_is_err_and}
+use Rattle.std.proofs.Common.{◌≡◌, Ok, Err, Some, Option, Result, sym, ap, ◌∙◌, rules}
+use Rattle.std.specs.Result.{MatchResult, IsOkAnd}
+use Rattle.script.specs.declared.cause.Cause.{Cause}
+use Rattle.script.specs.declared.command.Command.{Command}
+use Rattle.script.specs.Meaning.{read_words}
 use Rattle.script.specs.Parts.{words}
-use Rattle.script.proofs.Named.{lifted, named_words, within}
+use Rattle.script.proofs.Named.{lifted, named_words}
 use Rattle.script.proofs.reading.read_words.Goals as goal
-use Rattle.script.proofs.reading.read_words.Goals.{After-read_named}
 
-said : (c : After-read_named) → lifted c.read_named.result ≡ within c.args.limits (words c.args.content.now)
-said c =
-    ap lifted c.read_named.ensures ∙
-    sym (named_words c.args.limits c.in-Some.name.now (words c.in-Some.rest.now)) ∙
-    ap (within c.args.limits) (sym c.in-Some.ensures)
-
-pub returns-in_default : goal.returns-in_default
-returns-in_default c = ap (within c.args.limits) (sym c.in_default.ensures)
-
-pub returns-in_err-command : goal.returns-in_err-command
-returns-in_err-command c =
-    let p = err_from_is_err_and c.from_residual.result c.from_residual.ensures.1 in
-    p.1 ∙ ap (λ e. Err e) p.2 ∙ sym (ap lifted c.in_err-command.was) ∙ said (goal.at.returns-in_err-command c).After-read_named
+in_some : {Q : Command → Option Command → Type 0} → ((x : Command) (y : Option Command) → Q x y → y ≡ Some x) → (r : Result Command Cause) (o : Result (Option Command) Cause) → MatchResult r (λ x. IsOkAnd o (Q x)) (λ e. o ≡ Err e) → o ≡ lifted r
+in_some same (Ok x) (Ok y) h = ap (λ z. Ok z) (same x y h)
+in_some same (Ok x) (Err e) h = absurd h
+in_some same (Err e) o h = h
 
 pub returns : goal.returns
-returns c = sym (ap lifted c.in_ok-command.was) ∙ said (goal.at.returns c).After-read_named
+returns c =
+    in_some (λ x y h. search rules) c.read_named.result c.map.result c.map.ensures.cases ∙
+    ap lifted c.read_named.ensures ∙
+    sym (named_words c.args.limits c.in-Some.name.now (words c.in-Some.rest.now)) ∙
+    ap (read_words c.args.limits) (sym c.in-Some.ensures)

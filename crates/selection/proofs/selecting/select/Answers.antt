@@ -1,25 +1,27 @@
 -- One more network: it has no candidate, or its candidate is worse or better than the best so far.
-use Rattle.std.proofs.Common.{arith}
-use Rattle.selection.proofs.Best.{stays_none, first_one, better_one, worse_one, other, worse_at, better_at, same_number}
+use Rattle.std.proofs.Common.{rules}
+use Rattle.selection.proofs.Best.{better_one, first_one, other, worse_one}
+use Rattle.selection.proofs.Compared.{all_equal, better, still_equal, worse}
 use Rattle.selection.proofs.selecting.select.Goals as goal
-use Rattle.selection.proofs.selecting.select.Goals.{in-Via+else-loop-k-test, in-Via+then-loop-k-test+else-new-k+then-new-k-2, in_default-best}
+use Rattle.selection.proofs.selecting.select.Goals.{in-Via+in-None, in-Via+in-Some-2+else-new-old+then-new-old-2, in_default-best}
 
-pub candidates-preserved-in_default : goal.candidates-preserved-in_default
-candidates-preserved-in_default c = stays_none _ _ c.candidates.best c.candidates.j c.candidates.invariant c.in_default.ensures
+pub loop-new-preserved : goal.loop-new-preserved
+loop-new-preserved c =
+    still_equal _ _ _ _ _ _ c.keys-new.result c.keys-old.result c.keys-new.ensures c.keys-old.ensures c.into_iter-new-iterator.result c.loop-new.new-iterator c.next.new.self (search rules) (search rules) c.loop-new.yielded c.loop-new.yielded_by c.loop-new.invariant c.next.result c.next.ensures.steps (c.in-Some-2.new, c.in-Some-2.old) c.in-Some-2.is c.if-new-old.false c.if-new-old-2.false
 
-pub candidates-preserved-then-new-k : goal.candidates-preserved-then-new-k
-candidates-preserved-then-new-k c =
+pub candidates-preserved-then-new-old : goal.candidates-preserved-then-new-old
+candidates-preserved-then-new-old c =
     worse_one _ _ c.candidates.best c.candidates.j c.candidates.invariant c.in-Some.path.now c.in-Some.ensures c.in-Via.neighbour c.in-Via.path c.in-Via.is
-    (worse_at _ _ _ _ _ _ c.keys-new.result c.keys-old.result c.keys-new.ensures c.keys-old.ensures c.loop-k.k (omega arith) c.loop-k.invariant c.if-new-k.true)
+    (worse _ _ _ _ _ _ c.keys-new.result c.keys-old.result c.keys-new.ensures c.keys-old.ensures c.into_iter-new-iterator.result c.loop-new.new-iterator c.next.new.self (search rules) (search rules) c.loop-new.yielded c.loop-new.yielded_by c.loop-new.invariant c.next.result c.next.ensures.steps (c.in-Some-2.new, c.in-Some-2.old) c.in-Some-2.is c.if-new-old.true)
 
 pub candidates-preserved : goal.candidates-preserved
 candidates-preserved c =
     elim c.match-best.branch [
-      | in-Via+else-loop-k-test w ↦
+      | in-Via+in-None w ↦
           absurd (other _ _ c.candidates.best c.candidates.j c.candidates.invariant c.in-Some.path.now c.in-Some.ensures w.in-Via.neighbour w.in-Via.path w.in-Via.is
-          (same_number _ _ _ _ _ _ c.keys-new.result w.keys-old.result c.keys-new.ensures w.keys-old.ensures w.loop-k.k w.loop-k-test.false w.loop-k.invariant))
-      | in-Via+then-loop-k-test+else-new-k+then-new-k-2 w ↦
+          (all_equal _ _ _ _ _ _ c.keys-new.result w.keys-old.result c.keys-new.ensures w.keys-old.ensures w.into_iter-new-iterator.result w.loop-new.new-iterator w.next.new.self (search rules) (search rules) w.loop-new.yielded w.loop-new.yielded_by w.loop-new.invariant w.next.result w.next.ensures.steps w.in-None.is))
+      | in-Via+in-Some-2+else-new-old+then-new-old-2 w ↦
           better_one _ _ c.candidates.best c.candidates.j c.candidates.invariant c.in-Some.path.now c.in-Some.ensures w.in-Via.neighbour w.in-Via.path w.in-Via.is
-          (better_at _ _ _ _ _ _ c.keys-new.result w.keys-old.result c.keys-new.ensures w.keys-old.ensures w.loop-k.k (omega arith) w.loop-k.invariant w.if-new-k-2.true)
+          (better _ _ _ _ _ _ c.keys-new.result w.keys-old.result c.keys-new.ensures w.keys-old.ensures w.into_iter-new-iterator.result w.loop-new.new-iterator w.next.new.self (search rules) (search rules) w.loop-new.yielded w.loop-new.yielded_by w.loop-new.invariant w.next.result w.next.ensures.steps (w.in-Some-2.new, w.in-Some-2.old) w.in-Some-2.is w.if-new-old-2.true)
       | in_default-best w ↦ first_one _ _ c.candidates.best c.candidates.j c.candidates.invariant c.in-Some.path.now c.in-Some.ensures w.in_default-best.not-Via
     ]

@@ -1,12 +1,14 @@
--- After j networks the best is that among them; so long as the keys before k are equal.
-use Rattle.std.proofs.Common.{◌≡◌, ℕ, ◌<◌, false, get_or}
-use Rattle.relations.specs.Sound.{relation as relation_of}
+-- After j networks the best is that among them; so long as the keys that were compared are equal.
+use Rattle.std.proofs.Common.{◌≡◌, ℕ, ◌<◌, length, get_or}
+use Rattle.std.specs.Iterator.Adapters.{zip_first, zip_second}
+use Rattle.std.specs.Slice.Iter.{iter_rest}
 use Rattle.selection.specs.Choosing.{among, meaning, shorter}
+use Rattle.selection.specs.Nodes.{link_up, relation_to}
 use Rattle.selection.specs.Paths.{row}
 use Rattle.selection.proofs.selecting.select.Given as goal
 
 abbrev pub invariant-candidates : goal.invariant-candidates
-invariant-candidates l = meaning l.best ≡ among shorter (relation_of l.relations l.me) (λ j. get_or l.up j false) l.me (λ j. row l.received l.block j) l.j
+invariant-candidates l = meaning l.best ≡ among shorter (relation_to l.node) (link_up l.node) l.node.me (λ j. row l.received l.block j) l.j
 
-abbrev pub invariant-loop-k : goal.invariant-loop-k
-invariant-loop-k l = (i : ℕ) → i < l.k → get_or l.new i 0 ≡ get_or l.old i 0
+abbrev pub invariant-loop-new : goal.invariant-loop-new
+invariant-loop-new l = (i : ℕ) → i < length l.yielded → get_or (iter_rest (zip_first l.initial.new-iterator)) i 0 ≡ get_or (iter_rest (zip_second l.initial.new-iterator)) i 0

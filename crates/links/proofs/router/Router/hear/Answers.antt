@@ -10,7 +10,7 @@ pub take-audience-requires : goal.take-audience-requires
 take-audience-requires c =
     let r = c.args.relations.now in
     let t = c.args.tables.now in
-    let taken = sym c.in_default.ensures in
+    let taken = c.in_default.ensures in
     let known = there (world r t) c.args.self.number (held c.args.self t) c.args.from (news c.args.update) taken in
     record {
       there = subst (λ b. b < vec_len t.homes) (news_block c.args.update ∙ sym c.block.ensures) known.0;
@@ -23,7 +23,7 @@ returns c =
     let me = c.args.self.number in
     let s = held c.args.self c.args.tables.now in
     let u = news c.args.update in
-    let taken = sym c.in_default.ensures in
+    let taken = c.in_default.ensures in
     let block : c.block.result ≡ u.block = c.block.ensures ∙ sym (news_block c.args.update) in
     let after = replaced_is s c.args.from u _ c.take-audience.ensures.received in
     record {

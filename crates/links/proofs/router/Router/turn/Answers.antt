@@ -1,15 +1,13 @@
 -- What went over the link is forgotten, and every block told anew: the local step.
 use Rattle.std.proofs.Common.{◌≡◌, ◌<◌, true, None, vec_len, sym, ◌∙◌, subst, rules}
-use Rattle.std.proofs.lemmas.Bool.{both_ways}
 use Rattle.relations.specs.Sound.{relation}
 use Rattle.selection.specs.Choosing.{related}
 use Rattle.links.specs.Held.{held, world}
 use Rattle.links.specs.Hearing.{every, forgotten, turning_fault}
 use Rattle.links.specs.Local.{retold, sends}
 use Rattle.links.proofs.Receiving.{same_world}
-use Rattle.links.proofs.Turning.{forgotten_is, turned_is, no_turning_fault, is_related}
+use Rattle.links.proofs.Turning.{forgotten_is, turned_is, no_turning_fault}
 use Rattle.links.proofs.router.Router.turn.Goals as goal
-use Rattle.links.proofs.router.Router.turn.Goals.{in-Unrelated, in_default}
 
 pub returns : goal.returns
 returns c =
@@ -21,7 +19,7 @@ returns c =
     let place = same_world r then t c.forget.ensures.homes in
     let lost : held c.with_link-router.result then ≡ forgotten c.args.other c.args.up s = forgotten_is s (held c.with_link-router.result then) c.args.other c.args.up c.with_link-router.ensures.links c.forget.ensures.received c.forget.ensures.advertised in
     let number = c.with_link-router.ensures.number in
-    let tied : related (relation r me c.args.other) ≡ true = elim c.match-matches.branch [ in-Unrelated w ↦ absurd (both_ways _ c.if-matches.false w.matches-is) | in_default w ↦ is_related _ (λ e. w.in_default.not-Unrelated (c.relation.ensures ∙ e)) ] in
+    let tied : related (relation r me c.args.other) ≡ true = search rules in
     let none : turning_fault (world r t) me c.args.other ≡ None = no_turning_fault (world r t) me c.args.other (search rules) tied in
     record {
       number = number;

@@ -1,14 +1,11 @@
--- The new table holds zeros.
-use Rattle.std.proofs.Common.{refl, arith}
-use Rattle.selection.proofs.Cells.{zeros_hold}
+-- Each row says nothing.
+use Rattle.std.proofs.Common.{◌≡◌, replicate, ap, ◌∙◌, rules}
+use Rattle.std.proofs.lemmas.List.Elements.{same_from_all_zip}
+use Rattle.selection.specs.Paths.{rows_of}
+use Rattle.selection.proofs.Written.{blank}
 use Rattle.selection.proofs.table.PathTable.empty.Goals as goal
-
-pub invariant_of-result : goal.invariant_of-result
-invariant_of-result c =
-    let hold = zeros_hold _ _ c.args.blocks _ _ (c.in_ok-lengths.ensures.items_if_clones_equal (λ y e. e)) (c.in_ok-cells.ensures.items_if_clones_equal (λ y e. e)) in
-    record { few = omega arith; sized = c.in_ok-lengths.ensures.len; roomy = c.in_ok-cells.ensures.len; short = hold.0; padded = hold.1 }
 
 pub returns : goal.returns
 returns c =
-    let hold = zeros_hold _ _ c.args.blocks _ _ (c.in_ok-lengths.ensures.items_if_clones_equal (λ y e. e)) (c.in_ok-cells.ensures.items_if_clones_equal (λ y e. e)) in
-    (refl, hold.2)
+    let made : c.in_ok-blocks.blocks.items ≡ replicate c.args.blocks (replicate 64 c.empty.result) = c.in_ok-blocks.ensures.items_if_clones_equal (λ y z. same_from_all_zip _ _ _ z.whole (λ a b h. h)) in
+    (search rules, λ b j. ap (λ l. rows_of l b j) made ∙ blank c.args.blocks 64 c.empty.result c.empty.ensures b j)

@@ -18,7 +18,7 @@ returns-then-too_many c =
     let ls = vec_items c.in_ok-network.letters in
     let many = counted (networks x.relations) (posts ls) done.2.within in
     let same = ap (afloat (world_of x)) done.2.state in
-    record { world = refl; played = ((done.0, done.1, omega (arith, many, same, length-map ls meant, c.in_ok-network.letters.ok.0, ltb-true 4096 _ (sym c.too_many.ensures ∙ c.if-too_many.true), c.as_slice.ensures.len)), refl); falls = tt }
+    record { world = refl; played = ((done.0, done.1, omega (arith, many, same, length-map ls meant, c.in_ok-network.letters.ok.0, ltb-true 4096 _ (sym c.too_many.ensures ∙ c.if-too_many.true), c.deref.ensures.len)), refl); falls = tt }
 
 pub place-requires : goal.place-requires
 place-requires c = let done = c.in_ok-network.ensures in heard_ready c.args.self.now c.args.from c.args.to c.in_ok-network.network (vec_items c.in_ok-network.letters) done.0 done.1 done.2
@@ -36,7 +36,7 @@ returns c =
       played = record {
         below = done.0;
         some = done.1;
-        room = omega (arith, many, same, length-map ls meant, c.in_ok-network.letters.ok.0, ltb-false 4096 _ (sym c.too_many.ensures ∙ c.if-too_many.false), c.as_slice.ensures.len);
+        room = omega (arith, many, same, length-map ls meant, c.in_ok-network.letters.ok.0, ltb-false 4096 _ (sym c.too_many.ensures ∙ c.if-too_many.false), c.deref.ensures.len);
         step = state ∙ done.2.state;
       };
       falls = heard_lessens x c.args.from c.args.to _ done.0 done.1 (state ∙ done.2.state);

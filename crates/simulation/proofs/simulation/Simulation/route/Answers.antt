@@ -1,5 +1,6 @@
 -- The network's own route.
-use Rattle.std.proofs.Common.{◌<◌, length, vec_items, arith}
+use Rattle.std.proofs.Common.{◌≡◌, ◌<◌, length, get_or, vec_items, sym, ap, ◌∙◌, arith}
+use Rattle.std.proofs.lemmas.Bool.{ltb-true}
 use Rattle.relations.specs.Sound.{networks}
 use Rattle.simulation.proofs.Readings.{goes_here}
 use Rattle.simulation.proofs.simulation.Simulation.route.Goals as goal
@@ -8,6 +9,10 @@ pub returns : goal.returns
 returns c =
     let me = c.args.self.now in
     let j = c.args.network in
-    let there : j < length (vec_items me.networks) = omega (arith, c.len.ensures, c.if-at-len.false, me.networks.ok.0) in
+    let here = c.in-Some.network.now in
+    let found = c.in-Some.ensures.lookup in
+    let items = c.deref.ensures.value in
+    let there : j < length (vec_items me.networks) = omega (arith, ltb-true j _ (sym found.0), ap length items) in
     let below : j < networks me.relations = omega (arith, there, me.networks.ok.0, me.all) in
-    goes_here me.relations (vec_items me.homes) (vec_items me.networks) (vec_items me.letters) j c.args.block c.index-network.result.now _ there below c.index-network.ensures (me.numbers j) (me.same j) c.route.ensures
+    let is : here ≡ get_or (vec_items me.networks) j here = found.1 ∙ ap (λ l. get_or l j here) items in
+    goes_here me.relations (vec_items me.homes) (vec_items me.networks) (vec_items me.letters) j c.args.block here _ there below is (me.numbers j) (me.same j) c.route.ensures

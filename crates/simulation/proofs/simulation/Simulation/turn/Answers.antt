@@ -21,7 +21,7 @@ returns-then-too_many c =
     let ls = vec_items c.in_ok-first.letters in
     let many = counted (networks x.relations) (posts ls) done.2.within in
     let same = ap (afloat (world_of x)) done.2.state in
-    record { world = refl; played = ((done.0, done.1, omega (arith, many, same, length-map ls meant, c.in_ok-first.letters.ok.0, ltb-true 4096 _ (sym c.too_many.ensures ∙ c.if-too_many.true), c.as_slice.ensures.len)), refl) }
+    record { world = refl; played = ((done.0, done.1, omega (arith, many, same, length-map ls meant, c.in_ok-first.letters.ok.0, ltb-true 4096 _ (sym c.too_many.ensures ∙ c.if-too_many.true), c.deref.ensures.len)), refl) }
 
 pub invariant_of-self : goal.invariant_of-self
 invariant_of-self c =
@@ -48,7 +48,7 @@ returns c =
       played = record {
         below = done.0;
         tied = done.1;
-        room = omega (arith, many, length-map ls meant, c.in_ok-first.letters.ok.0, ltb-false 4096 _ (sym c.too_many.ensures ∙ c.if-too_many.false), c.as_slice.ensures.len);
+        room = omega (arith, many, length-map ls meant, c.in_ok-first.letters.ok.0, ltb-false 4096 _ (sym c.too_many.ensures ∙ c.if-too_many.false), c.deref.ensures.len);
         step = done.2.state;
       };
     }

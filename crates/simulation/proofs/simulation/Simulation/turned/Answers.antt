@@ -1,13 +1,11 @@
 -- What went over the link is lost, and both ends step.
-use Rattle.std.proofs.Common.{◌≡◌, ◌<◌, true, ◌&&◌, length, vec_items, ap, ◌∙◌, arith}
-use Rattle.std.proofs.lemmas.Bool.{both_ways, lt-ltb}
+use Rattle.std.proofs.Common.{◌≡◌, ◌<◌, true, ◌&&◌, length, vec_items, ap, ◌∙◌, arith, rules}
+use Rattle.std.proofs.lemmas.Bool.{lt-ltb}
 use Rattle.relations.specs.Sound.{networks, relation}
 use Rattle.selection.specs.Choosing.{related}
-use Rattle.links.proofs.Turning.{is_related}
 use Rattle.mail.specs.Posts.{cut, posts}
 use Rattle.simulation.proofs.Wholes.{homes_at, number_at, turned_whole, turned_within}
 use Rattle.simulation.proofs.simulation.Simulation.turned.Goals as goal
-use Rattle.simulation.proofs.simulation.Simulation.turned.Goals.{in-Unrelated, in_default}
 
 pub returns : goal.returns
 returns c =
@@ -21,12 +19,12 @@ returns c =
     let hj : j < networks x.relations = omega (arith, c.if-other-networks.false, c.networks-networks.ensures) in
     let li : i < length xs = omega (arith, hi, x.all, x.networks.ok.0) in
     let lj : j < length xs = omega (arith, hj, x.all, x.networks.ok.0) in
-    let tied : related (relation x.relations i j) ≡ true = elim c.match-matches.branch [ in-Unrelated w ↦ absurd (both_ways _ c.if-matches.false w.matches-is) | in_default w ↦ is_related _ (λ e. w.in_default.not-Unrelated (c.relation.ensures ∙ e)) ] in
+    let tied : related (relation x.relations i j) ≡ true = search rules in
     let ni = number_at xs i c.index.result.now li c.index.ensures (x.numbers i) in
     let nj = number_at xs j c.index-2.result.now lj c.index-2.ensures (x.numbers j) in
     let si = homes_at xs i c.index.result.now homes li c.index.ensures (x.same i) in
     let sj = homes_at xs j c.index-2.result.now homes lj c.index-2.ensures (x.same j) in
-    let left = c.in_ok-letters.ensures ∙ ap (λ l. cut i j (posts l)) c.as_slice.ensures.value in
+    let left = c.in_ok-letters.ensures ∙ ap (λ l. cut i j (posts l)) c.deref.ensures.value in
     let done = c.in_ok-first.ensures in (
       (λ z. lt-ltb i (networks x.relations) hi z && lt-ltb j (networks x.relations) hj z),
       tied,

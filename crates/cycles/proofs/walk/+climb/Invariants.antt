@@ -1,6 +1,0 @@
--- Each level that goes on has met a network that was not yet seen.
-use Rattle.cycles.specs.Walk.{unseen}
-use Rattle.cycles.proofs.walk.+climb.Given as goal
-
-abbrev pub decreases-climb : goal.decreases-climb
-decreases-climb l = unseen l.steps.now

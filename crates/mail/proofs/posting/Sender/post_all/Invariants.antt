@@ -1,0 +1,10 @@
+-- The blocks before were told.
+use Rattle.std.proofs.Common.{◌≡◌, ◌++◌, vec_items}
+use Rattle.selection.specs.Paths.{row}
+use Rattle.links.specs.Local.{gather}
+use Rattle.mail.specs.Posting.{whom}
+use Rattle.mail.specs.Posts.{mailing, posts}
+use Rattle.mail.proofs.posting.Sender.post_all.Given as goal
+
+abbrev pub invariant-loop-block : goal.invariant-loop-block
+invariant-loop-block l = posts (vec_items l.letters) ≡ posts (vec_items l.initial.letters) ++ gather (λ b. mailing l.self.number b (whom (vec_items l.self.tables.now.audiences) b) (row l.self.tables.now.advertised b) l.self.networks) l.block

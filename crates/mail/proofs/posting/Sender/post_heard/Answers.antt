@@ -1,0 +1,14 @@
+-- A refusal sends nothing.
+use Rattle.std.proofs.Common.{◌++◌, vec_items, sym, ap, ◌∙◌}
+use Rattle.selection.specs.Paths.{row}
+use Rattle.mail.specs.Posting.{told_by}
+use Rattle.mail.specs.Posts.{mailing, posts}
+use Rattle.mail.proofs.Posted.{nobody_told}
+use Rattle.mail.proofs.posting.Sender.post_heard.Goals as goal
+
+pub returns-in-Err : goal.returns-in-Err
+returns-in-Err c =
+    let me = c.args.self.now in
+    let before = posts (vec_items c.args.letters.now) in
+    let says = row me.tables.now.advertised c.args.block in
+    nobody_told me.number c.args.block me.networks c.in-Err.field-0 says before ∙ ap (λ h. before ++ mailing me.number c.args.block (told_by h) says me.networks) (sym c.in-Err.is)

@@ -1,0 +1,10 @@
+// A network among its neighbours.
+use relations::Relations;
+
+// What its neighbours are to it, which of its links are up, and its number.
+#[derive(Clone, Copy)]
+pub struct Node<'a> {
+    pub relations: &'a Relations,
+    pub up: &'a [bool],
+    pub me: u8,
+}
