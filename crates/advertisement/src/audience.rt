@@ -14,14 +14,7 @@ impl Audience {
     pub fn nobody() -> Audience
         ensures { (k : ℕ) → in_audience result k ≡ false }
     {
-        Audience::all(false)
-    }
-
-    // Apart, since what an array literal holds is known where a contract says it.
-    fn all(marked: bool) -> Audience
-        ensures { result.told ≡ replicate 64 marked }
-    {
-        Audience { told: [marked; 64] }
+        Audience { told: unmarked() }
     }
 
     pub fn contains(self, neighbour: u8) -> bool
@@ -38,4 +31,11 @@ impl Audience {
             self.told[neighbour as usize] = true;
         }
     }
+}
+
+// Apart, since what an array literal holds is known where a contract says it.
+fn unmarked() -> [bool; 64]
+    ensures { result ≡ replicate 64 false }
+{
+    [false; 64]
 }

@@ -11,6 +11,7 @@ ghost use Rattle.advertisement.specs.Telling.{tells, told};
 
 use crate::audience::Audience;
 use crate::policy::may_tell;
+use relations::MOST;
 use selection::{Node, PathTable, Route, is_up};
 
 // The path that the network puts itself in front of and tells the neighbour, if it tells one.
@@ -24,7 +25,8 @@ fn onward<'a>(node: Node, route: Route<'a>, neighbour: u8) -> Option<&'a [u8]>
         Route::Via {
             neighbour: from,
             path,
-        } if path.len() < 64 && may_tell(node.relations.relation(node.me, from), to) => Some(path),
+        } if path.len() < MOST as usize && may_tell(node.relations.relation(node.me, from), to) =>
+            Some(path),
         _ => None,
     }
 }
@@ -62,7 +64,8 @@ pub fn tell(node: Node, advertised: &mut PathTable, block: u16, route: Route, ne
     }
 }
 
-// Tells the neighbour if its link is up.
+// Tells the neighbour if its link is up. Apart, so that the loop of `advertise`, proved by hand, has one call that says
+// what each row is then.
 fn tell_if_up(
     node: Node,
     advertised: &mut PathTable,

@@ -4,6 +4,7 @@ ghost use Rattle.std.specs.Option.{option_map};
 ghost use Rattle.selection.specs.Paths.{row};
 ghost use Rattle.advertisement.specs.Updates.{block_of, said};
 
+use relations::MOST;
 use selection::PathTable;
 
 // The path is the first `length` of the networks, and what stands past them says nothing. Who hears it refuses a length
@@ -39,7 +40,7 @@ impl Update {
         ensures test { is_some result ≡ (nat_lt 0 (length path.now) && nat_le (length path.now) 64) }
         ensures says { IfSome result (λ u. (block_of u ≡ block) × (said u ≡ Some path.now)) }
     {
-        if path.is_empty() || path.len() > 64 {
+        if path.is_empty() || path.len() > MOST as usize {
             return None;
         }
         Some(announced(block, path))

@@ -1,10 +1,10 @@
 -- What a network will have received once all that is in flight to it is heard. Assumes nothing.
-use Rattle.std.proofs.Common.{◌≡◌, ℕ, zero, suc, ◌<◌, Bool, true, false, cond, not, ◌&&◌, eqb, ltb, List, [], ◌∷◌, ◌++◌, sym, refl, ap, ◌∙◌, subst, ⊎_elim, arith}
+use Rattle.std.proofs.Common.{◌≡◌, ℕ, zero, suc, Bool, true, false, cond, not, ◌&&◌, eqb, ltb, List, [], ◌∷◌, ◌++◌, sym, refl, ap, ◌∙◌, subst, ⊎_elim, arith}
 use Rattle.std.specs.List.{AllByRecursion}
-use Rattle.std.proofs.ByRecursion.{All-append}
 use Rattle.std.proofs.lemmas.List.{map-append}
 use Rattle.std.proofs.lemmas.Bool.{cases_eq, cond_both, cond-false, eqb-true, and_left, and_right}
 use Rattle.std.proofs.lemmas.Bool.Decides.{nat_tests}
+use Rattle.relations.proofs.Gathered.{gather_none}
 use Rattle.advertisement.specs.Sayings.{same_saying}
 use Rattle.advertisement.proofs.Sayings.{same_saying_decides_lem}
 use Rattle.links.specs.World.{World}
@@ -70,15 +70,6 @@ newest_sent w i these l b k =
     by true false f h = grind (arith, nat_tests)
     by false e f h = grind (arith, nat_tests)
 
--- each of a gathered list has what each part has
-pub gather_all : {X : Type 0} (P : X → Type 0) (f : ℕ → List X) (m : ℕ) → ((c : ℕ) → c < m → AllByRecursion P (f c)) → AllByRecursion P (gather f m)
-gather_all P f zero h = tt
-gather_all P f (suc m) h = All-append P (gather f m) (f m) (gather_all P f m (λ c l. h c (omega arith))) (h m (omega arith))
-
-gather_none : {X : Type 0} (f : ℕ → List X) (m : ℕ) → ((c : ℕ) → f c ≡ []) → gather f m ≡ []
-gather_none f zero h = refl
-gather_none f (suc m) h = λ x. (gather_none f m h x) ++ (h m x)
-
 -- nothing is sent over a link that is down
 pub none_sent : (w : World) (i : ℕ) (these : ℕ → Bool) (l : Local) (k : ℕ) → l.up k ≡ false → sent w i these l k ≡ []
-none_sent w i these l k down = gather_none _ w.blocks (λ c. cond-false (sends w i these l c k) _ _ (and_left _ _ (and_right _ _ down)))
+none_sent w i these l k down = gather_none _ w.blocks (λ c _. cond-false (sends w i these l c k) _ _ (and_left _ _ (and_right _ _ down)))

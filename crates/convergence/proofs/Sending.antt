@@ -11,7 +11,8 @@ use Rattle.links.specs.Packets.{Packet, Passed, arrived, dropped, handed, passed
 use Rattle.links.specs.Run.{update, packet, NoUpdate, onward, updates}
 use Rattle.links.specs.Promise.{Lookup, ProperItem}
 use Rattle.links.specs.Laws.{HoldsProper}
-use Rattle.convergence.proofs.Newest.{newest_sent, newest_quiet, gather_all, none_sent}
+use Rattle.relations.proofs.Gathered.{gather_all}
+use Rattle.convergence.proofs.Newest.{newest_sent, newest_quiet, none_sent}
 use Rattle.convergence.proofs.Dues.{due_is}
 use Rattle.convergence.proofs.Goodness.{chosen_is, tells_proper}
 use Rattle.convergence.proofs.Emitting.{Emits}

@@ -1,12 +1,12 @@
 -- From walks to the ring that is told. Assumes nothing.
-use Rattle.std.proofs.Common.{◌≡◌, ℕ, ◌+◌, ◌<◌, ◌≤◌, ◌⊎◌, List, [], ◌∷◌, ◌++◌, length, sym, refl, ap, ◌∙◌, subst, inl, inr, ⊎_elim, append_assoc, arith}
+use Rattle.std.proofs.Common.{◌≡◌, ℕ, ◌+◌, ◌<◌, ◌≤◌, ◌⊎◌, None, Some, Option, List, [], ◌∷◌, ◌++◌, length, sym, refl, ap, ◌∙◌, subst, inl, inr, ⊎_elim, append_assoc, arith}
 use Rattle.std.specs.List.{AllByRecursion}
 use Rattle.std.proofs.lemmas.List.{append-nil}
 use Rattle.std.proofs.ByRecursion.{All-append}
 use Rattle.std.proofs.lemmas.Bool.{cases_lt}
 use Rattle.relations.specs.Between.{Between, Within}
 use Rattle.relations.specs.Cycle.{Chain, Cycle, NoCycle, FromLowest, Smaller, Earlier, First}
-use Rattle.cycles.specs.Walk.{Climb, Fewest, Shortest}
+use Rattle.cycles.specs.Walk.{Climb, Fewest, FewestOr0, Shortest}
 use Rattle.cycles.specs.Trace.{Least, Next, Traced}
 use Rattle.relations.specs.declared.relation.Relation.TheVariants.{Provider}
 use Rattle.relations.proofs.Chains.{among, chain_join}
@@ -28,20 +28,18 @@ module _ (rel : Between) (low : ℕ) where
       at [] d a e = let z : ⊥ = omega arith in elim z [ ]
       at (x ∷ xs) d a e = (x, d.0, a.0, record { over = xs; chain = d.1; above = a.1; ends = c.ends; long = omega arith })
 
-  module _ (at left v k : ℕ) (some : 0 < left) (short : Shortest rel low (left + 1) at low) (up : rel at v ≡ Provider) (high : low ≤ v) (fewest : Fewest rel low k v low) where
-    -- where as many steps lead on as are left, the walk goes on there
-    pub goes_on : k ≡ left → Shortest rel low left v low
-    goes_on is =
-        record { walk = subst (λ m. Climb rel low m v low) is (fewest.real (omega arith)); least = λ m c. omega (arith, (fewest.least m c).1) }
+  -- where not as many steps lead on as are left, no walk of that many goes on there
+  pub goes_not : (at left v : ℕ) (o : Option ℕ) → Shortest rel low (left + 1) at low → rel at v ≡ Provider → low ≤ v → Fewest rel low o v low → (o ≡ Some left → ⊥) → Climb rel low left v low → ⊥
+  goes_not at left v None short up high fewest other c = fewest.none refl left c
+  goes_not at left v (Some k) short up high fewest other c =
+      let on = fewest.some k refl in
+      let over = short.least (k + 1) (climb_front k at v low up high on.walk) in
+      let is : k ≡ left = omega (arith, on.least left c, over) in other (ap Some is)
 
-    pub goes_not : (k ≡ left → ⊥) → Climb rel low left v low → ⊥
-    goes_not other c =
-        let most = fewest.least left c in
-        let over = short.least (k + 1) (climb_front k at v low up high (fewest.real most.0)) in
-        other (omega (arith, most.1, over))
-
-  pub fewest_shortest : (k v w : ℕ) → Fewest rel low k v w → 0 < k → Shortest rel low k v w
-  fewest_shortest k v w fewest h = record { walk = fewest.real h; least = λ m c. (fewest.least m c).1 }
+  pub fewest_some : (k v w : ℕ) → FewestOr0 rel low k v w → 0 < k → Fewest rel low (Some k) v w
+  fewest_some k v w fewest h =
+      let short : Shortest rel low k v w = record { walk = fewest.real h; least = λ m c. (fewest.least m c).1 } in
+      record { some = λ n e. let is : k ≡ n = cc in subst (λ m. Shortest rel low m v w) is short; none = λ e. absurd (cc) }
 
   least_one : (at left : ℕ) → Shortest rel low left at low → left ≤ 1 → Least rel low at left []
   least_one at left short h =
@@ -145,11 +143,11 @@ module _ (rel : Between) where
   first_of i j (x ∷ xs) c = (x, c.0)
 
   -- no cycle has its lowest member below `low`, nor at it where the walk does not come back
-  pub none_more : (low back : ℕ) → Fewest rel low back low low → back ≤ 0 → ((l k : ℕ) → l < low → Climb rel l k l l → ⊥) → (l k : ℕ) → l < low + 1 → Climb rel l k l l → ⊥
-  none_more low back fewest none_back none l k h c =
+  pub none_more : (low : ℕ) → ((m : ℕ) → Climb rel low m low low → ⊥) → ((l k : ℕ) → l < low → Climb rel l k l l → ⊥) → (l k : ℕ) → l < low + 1 → Climb rel l k l l → ⊥
+  none_more low none_back none l k h c =
       ⊎_elim
       (λ lt. none l k lt c)
-      (λ le. let is : l ≡ low = omega arith in omega (arith, (fewest.least k (subst (λ z. Climb rel z k z z) is c)).0))
+      (λ le. let is : l ≡ low = omega arith in none_back k (subst (λ z. Climb rel z k z z) is c))
       (cases_lt l low)
 
   pub no_cycle : (n : ℕ) → Within n rel → ((l k : ℕ) → l < n → Climb rel l k l l → ⊥) → NoCycle rel

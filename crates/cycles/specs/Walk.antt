@@ -1,5 +1,5 @@
 -- Walks up from a network, from customer to provider, and what a search by levels has met. Assumes nothing.
-use Rattle.std.specs.Prelude.{◌≡◌, ℕ, ◌+◌, ◌<◌, ◌≤◌, Bool, false, cond, List, length, count_by, nat_eq, slice_index}
+use Rattle.std.specs.Prelude.{◌≡◌, ℕ, ◌+◌, ◌<◌, ◌≤◌, Bool, false, cond, Option, None, Some, List, length, count_by, nat_eq, slice_index}
 use Rattle.std.specs.List.{AllByRecursion}
 use Rattle.relations.specs.Between.{Between}
 use Rattle.relations.specs.Cycle.{Chain}
@@ -17,6 +17,11 @@ pub record Climb (rel : Between) (low k from to : ℕ) : Type 0 where
 pub record Shortest (rel : Between) (low k from to : ℕ) : Type 0 where
   pub walk : Climb rel low k from to
   pub least : (m : ℕ) → Climb rel low m from to → k ≤ m
+
+-- `o` is the least number of steps from one network up to another, or none where no walk leads there
+pub record Fewest (rel : Between) (low : ℕ) (o : Option ℕ) (from to : ℕ) : Type 0 where
+  pub some : (k : ℕ) → o ≡ Some k → Shortest rel low k from to
+  pub none : o ≡ None → (m : ℕ) → Climb rel low m from to → ⊥
 
 -- how many networks are not yet seen
 abbrev pub unseen : List ℕ → ℕ
@@ -36,10 +41,10 @@ pub record Known (rel : Between) (low level start : ℕ) (steps : List ℕ) : Ty
   pub least : (m w : ℕ) → m ≤ level → Climb rel low m start w → (0 < slice_index steps w) × (slice_index steps w ≤ m)
 
 -- k is the least number of steps from one network up to another, and 0 where no walk leads there
-pub record Fewest (rel : Between) (low k from to : ℕ) : Type 0 where
+pub record FewestOr0 (rel : Between) (low k from to : ℕ) : Type 0 where
   pub real : 0 < k → Climb rel low k from to
   pub least : (m : ℕ) → Climb rel low m from to → (0 < k) × (k ≤ m)
 
 -- `steps` has for each network the least number of steps up to it, and 0 where no walk leads there
 abbrev pub Walked : Between → ℕ → ℕ → List ℕ → Type 0
-Walked rel low start steps = (w : ℕ) → Fewest rel low (slice_index steps w) start w
+Walked rel low start steps = (w : ℕ) → FewestOr0 rel low (slice_index steps w) start w

@@ -17,7 +17,7 @@ impl Slope<'_> {
         ensures { Next (rel self.entry.matrix.now) self.entry.low at left result }
     {
         (self.low..MOST)
-            .find(|v| self.provides(at, *v) && self.steps_to_low(*v) == left)
+            .find(|v| self.provides(at, *v) && self.steps_to_low(*v) == Some(left))
             .unwrap()
     }
 
@@ -41,11 +41,10 @@ impl Slope<'_> {
 pub fn first_cycle(matrix: &Matrix, heap: Global) -> Result<Option<Vec<u8>>, AllocError>
     ensures { IfOk result (λ o. MatchOption o (NoCycle (rel matrix.now)) (λ ring. First (rel matrix.now) ring.items)) }
 {
-    // no `find`, since what was found of `low`, its steps, makes the ring
+    // a loop, since `find_map(..).transpose()` needs a closure in a closure for what `?` says here
     for low in 0..matrix.networks() {
         let slope = Slope { matrix, low };
-        let steps = slope.steps_to_low(low);
-        if steps > 0 {
+        if let Some(steps) = slope.steps_to_low(low) {
             return Ok(Some(slope.ring(steps, heap)?));
         }
     }

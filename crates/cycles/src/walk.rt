@@ -6,8 +6,8 @@ ghost use Rattle.cycles.specs.Walk.{Fewest, Known, Spread, Walked, unseen};
 
 use relations::{MOST, Matrix, Relation};
 
-// For each network how few steps lead up to it from where a walk starts; 0 where none do, and no `Option`, since a level is
-// compared with all of them.
+// For each network how few steps lead up to it from where a walk starts.
+// 0 where none do, not `None`: what the levels keep true (`Spread`, `Known`) is said of a list of numbers.
 type Steps = [u8; 64];
 
 // The networks from `low` on, of those in a table.
@@ -78,10 +78,13 @@ impl Slope<'_> {
         steps
     }
 
-    // How few steps lead up from `start` to `low`, over networks from `low` on; 0 where none do.
-    pub(crate) fn steps_to_low(self, start: u8) -> u8
+    // How few steps lead up from `start` to `low`, over networks from `low` on; none if there is no such walk.
+    pub(crate) fn steps_to_low(self, start: u8) -> Option<u8>
         ensures { Fewest (rel self.entry.matrix.now) self.entry.low result start self.entry.low }
     {
-        self.walk_up(start)[self.low as usize]
+        match self.walk_up(start)[self.low as usize] {
+            0 => None,
+            steps => Some(steps),
+        }
     }
 }

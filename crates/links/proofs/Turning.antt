@@ -1,27 +1,19 @@
 -- What a turn leaves, block by block. Assumes nothing.
-use Rattle.std.proofs.Common.{◌≡◌, ℕ, ◌+◌, ◌<◌, Bool, true, cond, not, ◌&&◌, eqb, ltb, List, length, get_or, set, Some, None, sym, refl, ap, ◌∙◌, ⊎_elim, arith}
+use Rattle.std.proofs.Common.{◌≡◌, ℕ, ◌+◌, ◌<◌, Bool, true, cond, not, ◌&&◌, ltb, List, length, get_or, set, Some, None, sym, refl, ap, ◌∙◌, ⊎_elim, arith}
 use Rattle.std.proofs.lemmas.List.{get_or-set_same, get_or-set_other}
 use Rattle.std.proofs.lemmas.Bool.{cases_eq, le-ltb, eq-eqb, lt-leb}
 use Rattle.std.proofs.lemmas.Bool.Decides.{nat_tests}
 use Rattle.relations.specs.declared.relation.Relation.{Relation}
 use Rattle.relations.specs.declared.relation.Relation.TheVariants.{Unrelated, Customer, Peer, Provider}
 use Rattle.selection.specs.Choosing.{related}
-use Rattle.selection.specs.Rows.{with_row}
 use Rattle.advertisement.specs.Sayings.{same_saying}
 use Rattle.advertisement.specs.Audiences.{in_audience}
 use Rattle.advertisement.specs.declared.audience.Audience.{Audience}
 use Rattle.links.specs.declared.fault.Fault.TheVariants.{NoLink, NoSuchNetwork}
 use Rattle.links.specs.World.{World}
-use Rattle.links.specs.Local.{Said, Local, at, retold, sends, tells_now}
+use Rattle.links.specs.Local.{Local, at, retold, sends, tells_now}
 use Rattle.links.specs.Hearing.{after_turning, every, forgotten, only, turning_fault, unless}
 use Rattle.links.specs.Answers.{ToldAll}
-
--- the rows of the first m blocks are forgotten
-abbrev pub forgotten_to : ℕ → ℕ → (ℕ → ℕ → Said) → ℕ → ℕ → Said
-forgotten_to m j rows b k = cond (ltb b m && eqb k j) None (rows b k)
-
-pub forget_more : (m j : ℕ) (rows : ℕ → ℕ → Said) (now next : ℕ → ℕ → Said) → ((b k : ℕ) → now b k ≡ forgotten_to m j rows b k) → ((b k : ℕ) → next b k ≡ with_row now m j None b k) → (b k : ℕ) → next b k ≡ forgotten_to (m + 1) j rows b k
-forget_more m j rows now next h step b k = let e = step b k in let f = h b k in grind (arith, nat_tests)
 
 -- the first m blocks
 abbrev pub before : ℕ → ℕ → Bool

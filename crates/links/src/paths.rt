@@ -26,7 +26,7 @@ pub fn below(path: &[u8], n: u8) -> bool
     path.iter().all(|network| *network < n)
 }
 
-// Whether the path names a network twice.
+// Whether the path names a network twice. A loop, since no chain without an index hands on a network with those after it.
 pub fn repeats(path: &[u8]) -> bool
     ensures { result ≡ repeats_by path.now }
 {

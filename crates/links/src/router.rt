@@ -5,7 +5,7 @@ mod reading;
 mod turning;
 
 // An array, since a router has fixed memory. Relations and tables stay parameters of their own: the ones are lent to be
-// read, the others to be written, and both to many routers.
+// read, the others to be written.
 #[derive(Clone, Copy)]
 pub struct Router {
     number: u8,

@@ -8,8 +8,9 @@ use selection::PathTable;
 mod methods;
 
 // By block: the home; by block and neighbour: what was received and advertised last; and by block who was to be told
-// when a link turned last. Apart, and no list of blocks, since a step reads what was received while it writes what is
-// advertised. That the homes stay is a clause of each step, since an invariant speaks of one moment.
+// when a link turned last. Apart, and no list of blocks, since a step lends one table to be read and the other to be
+// written, whole, to functions that know of no homes or audiences, and the laws speak of one table of all blocks. That
+// the homes stay is a clause of each step, since an invariant speaks of one moment.
 #[derive(Drop)]
 pub struct Tables {
     pub(crate) homes: Vec<u8>,

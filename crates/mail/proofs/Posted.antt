@@ -1,7 +1,8 @@
 -- What is in flight between two networks, as letters are sent, heard and lost. Assumes nothing.
-use Rattle.std.proofs.Common.{Err, ◌≡◌, ℕ, zero, suc, not, Some, None, Option, ◌+◌, ◌<◌, Bool, true, false, cond, ◌||◌, List, [], ◌∷◌, ◌++◌, length, get_or, take, sym, refl, ap, ◌∙◌, append_assoc, append-nil, arith}
+use Rattle.std.proofs.Common.{Err, Result, Ok, true≢false, ◌≡◌, ℕ, subst, zero, suc, not, Some, None, Option, ◌+◌, ◌<◌, Bool, true, false, cond, ◌||◌, List, [], ◌∷◌, ◌++◌, length, get_or, take, sym, refl, ap, ◌∙◌, append_assoc, append-nil, arith}
 use lib.ListN.{length-map}
 use Rattle.std.specs.Option.{MatchOption}
+use Rattle.std.specs.Result.{is_ok}
 use Rattle.std.specs.List.{filter}
 use Rattle.std.proofs.lemmas.List.{take-map, take_all, map_push, get_or-map}
 use Rattle.std.proofs.lemmas.Bool.Decides.{nat_tests}
@@ -13,7 +14,7 @@ use Rattle.links.specs.declared.fault.Fault.{Fault}
 use Rattle.links.specs.Held.{news}
 use Rattle.links.specs.Local.{Said, Update, gather}
 use Rattle.mail.specs.declared.letter.Letter.{Letter}
-use Rattle.mail.specs.Posting.{Oldest, blank, told_by, whom}
+use Rattle.mail.specs.Posting.{Oldest, blank, letter_at, told_all, told_by, whom}
 use Rattle.mail.specs.Posts.{Post, addressed, between, cut, goes, mailing, meant, posts}
 use Rattle.relations.proofs.Gathered.{gather_more, gather_none}
 
@@ -35,12 +36,19 @@ pub record Front (i j k : ℕ) (u : Update) (ps : List Post) : Type 0 where
   pub first : between i j (take k ps) ≡ []
   pub here : (p : Post) → get_or ps k p ≡ record { from = i; to = j; what = u }
 
-pub oldest_front : (i j k : ℕ) (m : Message) (ls : List Letter) → Oldest i j k m ls → Front i j k (news m) (posts ls)
-oldest_front i j k m ls old = record {
+pub oldest_front : (i j k : ℕ) (ls : List Letter) → Oldest i j k ls → Front i j k (news (letter_at ls k).update) (posts ls)
+oldest_front i j k ls old = record {
   there = omega (arith, old.there, length-map ls meant);
   first = ap (between i j) (take-map meant k ls) ∙ old.first;
-  here = λ p. get_or-map meant ls k blank p old.there ∙ same_ends i j (meant (get_or ls k blank)) old.here ∙ ap (λ v. record { from = i; to = j; what = news v }) (sym old.says);
+  here = λ p. get_or-map meant ls k blank p old.there ∙ same_ends i j (meant (letter_at ls k)) old.here;
 }
+
+-- the ends of the oldest from i to j
+pub oldest_ends : (i j k : ℕ) (ls : List Letter) → Oldest i j k ls → ((letter_at ls k).from ≡ i) × ((letter_at ls k).to ≡ j)
+oldest_ends i j k ls old = let p = same_ends i j (meant (letter_at ls k)) old.here in (ap (λ q. q.from) p, ap (λ q. q.to) p)
+
+pub oldest_between : (i j k : ℕ) (ls : List Letter) → Oldest i j k ls → Oldest (letter_at ls k).from (letter_at ls k).to k ls
+oldest_between i j k ls old = let e = oldest_ends i j k ls old in subst {A = ℕ × ℕ} (λ p. Oldest p.0 p.1 k ls) (λ z. (sym e.0 z, sym e.1 z)) old
 
 -- nothing before the first place goes there
 none_before : (i j k : ℕ) (ls : List Letter) → ((m : ℕ) → m < k → goes i j (meant (get_or ls m blank)) ≡ false) → between i j (posts (take k ls)) ≡ []
@@ -53,9 +61,9 @@ module _ (i j : ℕ) (ls : List Letter) where
   abbrev pub there : ℕ → Bool
   there k = goes i j (meant (get_or ls k blank))
 
-  pub oldest_is : (o : Option ℕ) → MatchOption o ((k : ℕ) → k < length ls → there k ≡ false) (λ p. (p < length ls) × (there p ≡ true) × ((k : ℕ) → k < p → there k ≡ false)) → MatchOption o (between i j (posts ls) ≡ []) (λ k. Oldest i j k (get_or ls k blank).update ls)
+  pub oldest_is : (o : Option ℕ) → MatchOption o ((k : ℕ) → k < length ls → there k ≡ false) (λ p. (p < length ls) × (there p ≡ true) × ((k : ℕ) → k < p → there k ≡ false)) → MatchOption o (between i j (posts ls) ≡ []) (λ k. Oldest i j k ls)
   oldest_is None none = ap (λ t. between i j (posts t)) (sym (take_all (length ls) ls (omega arith))) ∙ none_before i j (length ls) ls none
-  oldest_is (Some k) (l, here, none) = record { there = l; first = none_before i j k ls none; here = sym here; says = refl }
+  oldest_is (Some k) (l, here, none) = record { there = l; first = none_before i j k ls none; here = sym here }
 
 -- one letter is kept or lost
 one_kept : (b : Bool) (l : Letter) (rest : List Letter) (ps : List Post) → posts rest ≡ ps → posts (cond (not b) (l ∷ rest) rest) ≡ cond b ps (meant l ∷ ps)
@@ -82,3 +90,11 @@ by_audience audiences b a l e = get_or-map in_audience audiences b a (λ k. fals
 -- nothing is sent after a refusal
 pub nobody_told : (i block n : ℕ) (fault : Fault) (says : ℕ → Said) (ps : List Post) → ps ≡ ps ++ mailing i block (told_by (Err fault)) says n
 nobody_told i block n fault says ps = sym (append-nil ps) ∙ ap (λ t. ps ++ t) (sym (gather_none _ n (λ k h. refl)))
+
+pub all_told : (turned : Result (Unit {0}) Fault) (ps : List Post) → is_ok turned ≡ true → told_all turned ps ≡ ps
+all_told (Ok _) ps h = refl
+all_told (Err fault) ps h = absurd (true≢false (sym h))
+
+pub none_told : (turned : Result (Unit {0}) Fault) (ps : List Post) → is_ok turned ≡ false → told_all turned ps ≡ []
+none_told (Ok _) ps h = absurd (true≢false h)
+none_told (Err fault) ps h = refl

@@ -42,15 +42,12 @@ module _ (r : Relations) (x : Network) (own then : Tables) (same : Same x.tables
     answered : Answered (ground_of r x) (number_of x) (local x) from (news m) heard
     answered = subst {A = World × Local} (λ z. Answered z.0 (number_of x) z.1 from (news m) heard) (λ y. (place y, same_held x.router x.tables own same y)) answer
 
-    pub heard_mailing : (sender block n : ℕ) → sender ≡ number_of x → block ≡ block_of m → n ≡ networks r → mailing sender block (told_by heard) (row then.advertised block) n ≡ mail (number_of x) (outbox_on_hearing (ground_of r x) (number_of x) from (news m) (local x))
-    heard_mailing sender block n a b c = (λ y. mailing (a y) (b y) (told_by heard) (row then.advertised (b y)) (c y)) ∙ heard_mail (ground_of r x) (number_of x) from (news m) (local x) heard (row then.advertised (block_of m)) answered (λ k. ap (λ s. s.advertised (block_of m) k) here)
-
-    pub heard_step : (router : Router) (sender block n : ℕ) (before after : List Letter) → router ≡ x.router → sender ≡ number_of x → block ≡ block_of m → n ≡ networks r → posts after ≡ posts before ++ mailing sender block (told_by heard) (row then.advertised block) n → Stepped x (after_hearing (ground_of r x) (number_of x) from (news m) (local x)) (outbox_on_hearing (ground_of r x) (number_of x) from (news m) (local x)) before after (record { router = router; tables = then })
-    heard_step router sender block n before after e a b c sent = record {
+    pub heard_step : (router : Router) (before after : List Letter) → router ≡ x.router → posts after ≡ posts before ++ mailing router.number (block_of m) (told_by heard) (row then.advertised (block_of m)) (networks r) → Stepped x (after_hearing (ground_of r x) (number_of x) from (news m) (local x)) (outbox_on_hearing (ground_of r x) (number_of x) from (news m) (local x)) before after (record { router = router; tables = then })
+    heard_step router before after e sent = record {
       number = ap (λ z. z.number) e;
       homes = homes_kept;
       holds = ap (λ z. held z then) e ∙ here;
-      letters = sent ∙ ap (λ l. posts before ++ l) (heard_mailing sender block n a b c);
+      letters = sent ∙ (λ y. posts before ++ mailing ((e y).number) (block_of m) (told_by heard) (row then.advertised (block_of m)) (networks r)) ∙ ap (λ l. posts before ++ l) (heard_mail (ground_of r x) (number_of x) from (news m) (local x) heard (row then.advertised (block_of m)) answered (λ k. ap (λ s. s.advertised (block_of m) k) here));
     }
 
   module _ (other : ℕ) (up : Bool) (router : Router) (turned : Result (Unit {0}) Fault) (holds : held router then ≡ after_turning (world r own) (number_of x) other up (held x.router own)) (answer : TurnAnswered (world r own) (number_of x) (held x.router own) other up (vec_items then.audiences) turned) where
@@ -60,16 +57,16 @@ module _ (r : Relations) (x : Network) (own then : Tables) (same : Same x.tables
     turn_answered : TurnAnswered (ground_of r x) (number_of x) (local x) other up (vec_items then.audiences) turned
     turn_answered = subst {A = World × Local} (λ z. TurnAnswered z.0 (number_of x) z.1 other up (vec_items then.audiences) turned) (λ y. (place y, same_held x.router x.tables own same y)) answer
 
-    pub turned_mailing : (sender n : ℕ) → sender ≡ number_of x → n ≡ networks r → told_all turned (gather (λ b. mailing sender b (whom (vec_items then.audiences) b) (row then.advertised b) n) (vec_len then.homes)) ≡ mail (number_of x) (outbox_on_turning (ground_of r x) (number_of x) other up (local x))
-    turned_mailing sender n a c =
+    turned_mailing : told_all turned (gather (λ b. mailing (number_of x) b (whom (vec_items then.audiences) b) (row then.advertised b) (networks r)) (vec_len then.homes)) ≡ mail (number_of x) (outbox_on_turning (ground_of r x) (number_of x) other up (local x))
+    turned_mailing =
         let blocks : vec_len then.homes ≡ length (vec_items x.tables.homes) = then.homes.ok.0 ∙ ap length homes_kept in
-        (λ y. told_all turned (gather (λ b. mailing (a y) b (whom (vec_items then.audiences) b) (row then.advertised b) (c y)) (blocks y))) ∙
+        ap (λ n. told_all turned (gather (λ b. mailing (number_of x) b (whom (vec_items then.audiences) b) (row then.advertised b) (networks r)) n)) blocks ∙
         turned_mail (ground_of r x) (number_of x) other up (local x) (vec_items then.audiences) turned (row then.advertised) (sym then.audiences.ok.0 ∙ then.whom ∙ blocks) turn_answered (λ b k. ap (λ s. s.advertised b k) turned_here)
 
-    pub turned_step : (sender n : ℕ) (before after : List Letter) → router.number ≡ number_of x → sender ≡ number_of x → n ≡ networks r → posts after ≡ posts before ++ told_all turned (gather (λ b. mailing sender b (whom (vec_items then.audiences) b) (row then.advertised b) n) (vec_len then.homes)) → Stepped x (after_turning (ground_of r x) (number_of x) other up (local x)) (outbox_on_turning (ground_of r x) (number_of x) other up (local x)) before after (record { router = router; tables = then })
-    turned_step sender n before after number a c sent = record {
+    pub turned_step : (before after : List Letter) → router.number ≡ number_of x → posts after ≡ posts before ++ told_all turned (gather (λ b. mailing router.number b (whom (vec_items then.audiences) b) (row then.advertised b) (networks r)) (vec_len then.homes)) → Stepped x (after_turning (ground_of r x) (number_of x) other up (local x)) (outbox_on_turning (ground_of r x) (number_of x) other up (local x)) before after (record { router = router; tables = then })
+    turned_step before after number sent = record {
       number = number;
       homes = homes_kept;
       holds = turned_here;
-      letters = sent ∙ ap (λ l. posts before ++ l) (turned_mailing sender n a c);
+      letters = sent ∙ (λ y. posts before ++ told_all turned (gather (λ b. mailing (number y) b (whom (vec_items then.audiences) b) (row then.advertised b) (networks r)) (vec_len then.homes))) ∙ ap (λ l. posts before ++ l) turned_mailing;
     }

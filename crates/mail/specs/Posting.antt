@@ -1,8 +1,7 @@
--- The oldest of what is in flight, and room for what is sent. Assumes nothing.
-use Rattle.std.specs.Prelude.{◌≡◌, ℕ, ◌<◌, Bool, true, false, List, [], map, length, get_or, take, Result, Ok, Err, slice_index_or}
+-- The oldest of what is in flight, and who is told of what is sent. Assumes nothing.
+use Rattle.std.specs.Prelude.{◌≡◌, ℕ, ◌<◌, Bool, true, false, List, [], map, length, take, Result, Ok, Err, slice_index_or}
 use Rattle.advertisement.specs.Audiences.{in_audience}
 use Rattle.advertisement.specs.declared.audience.Audience.{Audience}
-use Rattle.advertisement.specs.declared.update.Update.{Update as Message}
 use Rattle.advertisement.specs.declared.update.Update.TheVariants.{Announce}
 use Rattle.links.specs.declared.fault.Fault.{Fault}
 use Rattle.mail.specs.Posts.{Post, between, goes, meant, posts}
@@ -12,12 +11,15 @@ use Rattle.mail.specs.declared.letter.Letter.{Letter}
 abbrev pub blank : Letter
 blank = record { from = 0; to = 0; update = Announce (record { block = 0; length = 0; networks = [] }) }
 
--- at place k stands a letter from i to j that says u, and none before it goes there
-pub record Oldest (i j k : ℕ) (u : Message) (ls : List Letter) : Type 0 where
+-- the letter at place k
+abbrev pub letter_at : List Letter → ℕ → Letter
+letter_at ls k = slice_index_or ls k blank
+
+-- at place k stands a letter from i to j, and none before it goes there
+pub record Oldest (i j k : ℕ) (ls : List Letter) : Type 0 where
   pub there : k < length ls
   pub first : between i j (posts (take k ls)) ≡ []
-  pub here : true ≡ goes i j (meant (slice_index_or ls k blank))
-  pub says : u ≡ (get_or ls k blank).update
+  pub here : true ≡ goes i j (meant (letter_at ls k))
 
 -- by block, who is to be told
 abbrev pub whom : List Audience → ℕ → ℕ → Bool

@@ -53,12 +53,12 @@ turned_to r x j up = after_turning (ground_of r x) (number_of x) j up (local x)
 abbrev pub sent_to : Relations → Network → ℕ → Bool → List (ℕ × Update)
 sent_to r x j up = outbox_on_turning (ground_of r x) (number_of x) j up (local x)
 
--- the link of x, to j, and of z, to i, turned: both stepped, and x sent before z
-pub record BothTurned (r : Relations) (x z : Network) (i j : ℕ) (up : Bool) (before after : List Letter) (y : Network × Network) : Type 0 where
+-- the link of x and z turned: both stepped, and x sent before z
+pub record BothTurned (r : Relations) (x z : Network) (up : Bool) (before after : List Letter) (y : Network × Network) : Type 0 where
   pub number : number_of y.0 ≡ number_of x
   pub number2 : number_of y.1 ≡ number_of z
   pub homes : homes_of y.0 ≡ homes_of x
   pub homes2 : homes_of y.1 ≡ homes_of z
-  pub holds : local y.0 ≡ turned_to r x j up
-  pub holds2 : local y.1 ≡ turned_to r z i up
-  pub letters : posts after ≡ (posts before ++ mail (number_of x) (sent_to r x j up)) ++ mail (number_of z) (sent_to r z i up)
+  pub holds : local y.0 ≡ turned_to r x (number_of z) up
+  pub holds2 : local y.1 ≡ turned_to r z (number_of x) up
+  pub letters : posts after ≡ (posts before ++ mail (number_of x) (sent_to r x (number_of z) up)) ++ mail (number_of z) (sent_to r z (number_of x) up)

@@ -1,5 +1,6 @@
 -- The words in which a refusal is told. Assumes nothing.
 use Rattle.std.specs.Prelude.{ℕ, List, ◌++◌, vec_items, codes, decimal}
+use Rattle.text.specs.Faults as faults
 use Rattle.text.specs.Row.{spelled}
 use Rattle.refusals.specs.declared.refusal.Cause.{Cause}
 use Rattle.refusals.specs.declared.refusal.Cause.TheVariants.{UnknownKind, Cut, Surplus, NoSuchNetwork, BadCount, NotRising, SamePair, PeersTurned, Itself, TooMany}
@@ -39,7 +40,7 @@ place_words (Tie k) = codes "tie " ++ decimal k
 place_words End = codes "end"
 
 abbrev pub fault_words : Place → Cause → List ℕ
-fault_words p c = (codes "fault " ++ (decimal (number c) ++ codes " at ")) ++ (place_words p ++ (codes ": " ++ cause_words c))
+fault_words p c = faults.fault_words (number c) (place_words p) (cause_words c)
 
 -- the number, the place and the cause; a cycle is the villages' ring of customers
 abbrev pub words : Refusal → List ℕ

@@ -1,7 +1,9 @@
 // Why a ties file is refused, and where.
 ghost use Rattle.std.specs.Prelude.{◌≡◌};
+ghost use Rattle.refusals.specs.Unsound.{refusal_of};
 ghost use Rattle.refusals.specs.declared.refusal.Refusal.TheVariants.{Memory};
 
+use cycles::Unsound;
 use std::alloc::AllocError;
 
 // What is wrong with one thing of the file.
@@ -52,5 +54,17 @@ impl From<AllocError> for Refusal {
 
     fn from(_e: AllocError) -> Refusal {
         Refusal::Memory
+    }
+}
+
+// Why a table that was read is not taken.
+impl From<Unsound> for Refusal {
+    ghost from_gives = { λ e r. r ≡ refusal_of e };
+
+    fn from(e: Unsound) -> Refusal {
+        match e {
+            Unsound::Cycle(ring) => Refusal::Cycle(ring),
+            Unsound::Memory => Refusal::Memory,
+        }
     }
 }

@@ -1,17 +1,16 @@
 // A refusal in words.
-ghost use Rattle.std.specs.Prelude.{◌≡◌, Some};
-ghost use Rattle.refusals.specs.Words.{cause_words, number as number_of, place_words, words};
+ghost use Rattle.std.specs.Prelude.{Some};
+ghost use Rattle.refusals.specs.Words.{cause_words, number, place_words, words};
 
 use crate::refusal::{Cause, Place, Refusal};
 use std::error::Error;
 use std::fmt;
-use text::Row;
+use text::{Fault, Numbered, Row};
 
-impl Cause {
-    // The number of the fault. No trait for the causes of several crates, since each is asked where its type is known.
-    pub fn number(self) -> u8
-        ensures { result ≡ number_of self }
-    {
+impl Numbered for Cause {
+    ghost number_of = { number };
+
+    fn number(&self) -> u8 {
         match self {
             Cause::UnknownKind | Cause::Cut | Cause::Surplus => 1,
             Cause::NoSuchNetwork | Cause::BadCount => 2,
@@ -58,7 +57,8 @@ impl fmt::Display for Refusal {
     fn fmt<W: fmt::Write>(&self, f: &mut fmt::Formatter<W>) -> fmt::Result {
         match self {
             Refusal::Fault { place, cause } => {
-                write!(f, "fault {} at {place}: {cause}", cause.number())
+                let (place, cause) = (*place, *cause);
+                write!(f, "{}", Fault { place, cause })
             }
             Refusal::Cycle(ring) => {
                 write!(f, "fault 5 at end: a ring of customers: {}", Row(ring))

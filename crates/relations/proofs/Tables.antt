@@ -1,15 +1,17 @@
 -- What a write to the table of relations leaves. Assumes nothing.
-use Rattle.std.proofs.Common.{◌≡◌, ℕ, ◌<◌, ◌≤◌, cond, ◌&&◌, eqb, List, [], length, get_or, set, replicate, sym, refl, ap, ◌∙◌, ⊎_elim, arith, length-set}
+use Rattle.std.proofs.Common.{◌≡◌, ℕ, ◌<◌, cond, ◌&&◌, eqb, List, [], length, get_or, set, replicate, sym, refl, ap, ◌∙◌, ⊎_elim, arith, length-set}
 use lib.ListN.{length-replicate}
 use Rattle.std.proofs.lemmas.List.{get_or-set_same, get_or-set_other, get_or-replicate, get_or_past, get_or_default}
 use Rattle.std.proofs.lemmas.Bool.{cases_eq, cases_lt, cond-true, cond-false, eq-eqb, ne_eqb}
 use Rattle.std.proofs.lemmas.Bool.Decides.{nat_tests}
 use Rattle.relations.specs.Between.{Between, Mutual, Apart, Wide, Within, between, opposite, with_pair}
+use Rattle.relations.specs.Table.{rel}
+use Rattle.relations.specs.declared.matrix.Matrix.{Matrix}
 use Rattle.relations.specs.declared.relation.Relation.{Relation}
 use Rattle.relations.specs.declared.relation.Relation.TheVariants.{Unrelated, Customer, Peer, Provider}
 
-pub get_d_set : {X : Type 0} (l : List X) (p q : ℕ) (v d : X) → p < length l → get_or (set l p v) q d ≡ cond (eqb q p) v (get_or l q d)
-get_d_set l p q v d h =
+pub get_or_set : {X : Type 0} (l : List X) (p q : ℕ) (v d : X) → p < length l → get_or (set l p v) q d ≡ cond (eqb q p) v (get_or l q d)
+get_or_set l p q v d h =
     ⊎_elim
     (λ e. ap (λ k. get_or (set l p v) k d) e ∙ get_or-set_same l p v d h ∙ sym (cond-true (eqb q p) v (get_or l q d) (eq-eqb q p e)))
     (λ n. get_or-set_other l p q v d n ∙ sym (cond-false (eqb q p) v (get_or l q d) (ne_eqb q p n)))
@@ -35,8 +37,8 @@ opposite_opposite Provider = refl
 written : (rows : List (List Relation)) (i j : ℕ) (row : List Relation) (x : Relation) → row ≡ get_or rows i row → i < length rows → j < length row → (a b : ℕ) → between (set rows i (set row j x)) a b ≡ cond (eqb a i && eqb b j) x (between rows a b)
 written rows i j row x at hi hj a b =
     let here : row ≡ get_or rows i [] = at ∙ get_or_default rows i row [] hi in
-    let e = get_d_set rows i a (set row j x) [] hi in
-    let f = get_d_set row j b x Unrelated hj in
+    let e = get_or_set rows i a (set row j x) [] hi in
+    let f = get_or_set row j b x Unrelated hj in
     grind (arith, nat_tests, e, f, here)
 
 pub pair_mutual : (rel : Between) (a b : ℕ) (x : Relation) → (a ≡ b → ⊥) → Mutual rel → Mutual (with_pair rel a b x)
@@ -50,7 +52,7 @@ pair_within n rel a b x ha hb m i j h = let e = m i j h in grind (arith, nat_tes
 
 wide_set : (rows : List (List Relation)) (i : ℕ) (row : List Relation) → length row ≡ 64 → i < length rows → Wide rows → Wide (set rows i row)
 wide_set rows i row long hi wide k h =
-    let e = get_d_set rows i k row [] hi in
+    let e = get_or_set rows i k row [] hi in
     let l : length (set rows i row) ≡ length rows = simp length-set in
     let f : length (get_or rows k []) ≡ 64 = wide k (omega arith) in
     grind (arith, nat_tests, e, f, long)
@@ -62,9 +64,20 @@ none_hold rows n e =
     let wide : Wide rows = λ i h. ap (λ l. length (get_or l i [])) e ∙ ap length (get_or-replicate 64 i (replicate 64 Unrelated) [] (let l : length (replicate 64 (replicate 64 Unrelated)) ≡ 64 = simp length-replicate in let m : length rows ≡ 64 = ap length e ∙ l in omega arith)) ∙ simp length-replicate in
     (wide, λ i j. at j i ∙ ap opposite (sym (at i j)), λ i. at i i, λ i j h. at i j)
 
--- and so does one with a pair more
-pub pair_hold : (rows : List (List Relation)) (n a b : ℕ) (x y : Relation) (u v : List Relation) → length rows ≡ 64 → n ≤ 64 → a < n → b < n → (a ≡ b → ⊥) → y ≡ opposite x → u ≡ get_or rows a u → v ≡ get_or (set rows a (set u b x)) b v → Wide rows → Mutual (between rows) → Apart (between rows) → Within n (between rows) → let new : List (List Relation) = set (set rows a (set u b x)) b (set v a y) in ((i j : ℕ) → between new i j ≡ with_pair (between rows) a b x i j) × Wide new × Mutual (between new) × Apart (between new) × Within n (between new)
-pair_hold rows n a b x y u v long few ha hb ne is hu hv wide m p w =
+-- a table after the two ends of a pair were written: it is as `with_pair` says, and keeps the promises of its type
+pub record Paired (m : Matrix) (a b : ℕ) (x : Relation) (new : List (List Relation)) : Type 0 where
+  pub says : (i j : ℕ) → between new i j ≡ with_pair (rel m) a b x i j
+  pub wide : Wide new
+  pub «mutual» : Mutual (between new)
+  pub apart : Apart (between new)
+  pub within : Within m.networks (between new)
+
+pub pair_hold : (m : Matrix) (a b : ℕ) (x y : Relation) (u v : List Relation) → a < m.networks → b < m.networks → (a ≡ b → ⊥) → y ≡ opposite x → u ≡ get_or m.rows.items a u → v ≡ get_or (set m.rows.items a (set u b x)) b v → Paired m a b x (set (set m.rows.items a (set u b x)) b (set v a y))
+pair_hold m a b x y u v ha hb ne is hu hv =
+    let rows = m.rows.items in
+    let few = m.few in
+    let wide = m.wide in
+    let long : length rows ≡ 64 = sym m.rows.ok.0 ∙ m.long in
     let la : length u ≡ 64 = ap length (hu ∙ get_or_default rows a u [] (omega arith)) ∙ wide a (omega arith) in
     let la' : length (set u b x) ≡ 64 = (simp length-set) ∙ la in
     let l1 : length (set rows a (set u b x)) ≡ 64 = (simp length-set) ∙ long in
@@ -76,4 +89,10 @@ pair_hold rows n a b x y u v long few ha hb ne is hu hv wide m p w =
     (let e = written rows a b u x hu (omega arith) (omega arith) i j in
     let f = written (set rows a (set u b x)) b a v y hv (omega arith) (omega arith) i j in
     grind (arith, nat_tests, e, f, is)) in
-    (at, w2, λ i j. at j i ∙ pair_mutual (between rows) a b x ne m i j ∙ ap opposite (sym (at i j)), λ i. at i i ∙ pair_apart (between rows) a b x ne p i, λ i j h. at i j ∙ pair_within n (between rows) a b x ha hb w i j h)
+    record {
+      says = at;
+      wide = w2;
+      «mutual» = λ i j. at j i ∙ pair_mutual (rel m) a b x ne m.«mutual» i j ∙ ap opposite (sym (at i j));
+      apart = λ i. at i i ∙ pair_apart (rel m) a b x ne m.apart i;
+      within = λ i j h. at i j ∙ pair_within m.networks (rel m) a b x ha hb m.within i j h;
+    }

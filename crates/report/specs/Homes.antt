@@ -1,6 +1,7 @@
 -- The homes of the blocks, each a word: word k is the home of block k. Assumes nothing.
 use Rattle.std.specs.Prelude.{◌≡◌, ℕ, ◌+◌, cond, List, [], ◌∷◌, ◌++◌, map, Ok, Err, string_bytes, codes, decimal, Result, String, nat_lt}
 use Rattle.std.specs.declared.alloc.Global.{Global}
+use Rattle.text.specs.Faults.{fault_words}
 use Rattle.script.specs.Faults as script
 use Rattle.script.specs.Networks.{network_named}
 use Rattle.script.specs.Words as words
@@ -50,7 +51,10 @@ abbrev pub cause_words : HomeCause → List ℕ
 cause_words (Word c) = words.cause_words c
 cause_words TooMany = codes "more than 64 blocks"
 
+abbrev pub home_words : ℕ → List ℕ
+home_words place = codes "home " ++ decimal place
+
 -- the number of the fault, the place and the cause
 abbrev pub refusal_words : HomeRefusal → List ℕ
-refusal_words (Fault place cause) = codes "fault " ++ (decimal (number cause) ++ (codes " at home " ++ (decimal place ++ (codes ": " ++ cause_words cause))))
+refusal_words (Fault place cause) = fault_words (number cause) (home_words place) (cause_words cause)
 refusal_words Memory = codes "out of memory"

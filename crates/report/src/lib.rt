@@ -11,4 +11,4 @@ pub use homes::{HomeCause, HomeRefusal, read_homes};
 pub use laws::lines_tell_routes;
 pub use playing::play;
 pub use routes::{RouteLine, Shown};
-pub use steps::{StepFault, line_fault};
+pub use steps::StepFault;

@@ -10,7 +10,7 @@ fn ties(rt: HostRuntime) -> Result<Relations, Fail> {
     matrix.relate(1, 0, Relation::Customer);
     matrix.relate(1, 2, Relation::Peer);
     matrix.relate(1, 3, Relation::Provider);
-    Ok(sound(matrix, rt.alloc()).ok().ok_or("a cycle")?)
+    Ok(sound(matrix, rt.alloc())?)
 }
 
 fn blocks(rt: HostRuntime) -> Result<Tables, Fail> {
@@ -28,10 +28,7 @@ fn started(ties: &Relations, tables: &mut Tables) -> Router {
 
 // The path that is told, or none at all.
 fn update(block: u16, networks: &[u8]) -> Update {
-    match Update::announce(block, networks) {
-        Some(update) => update,
-        None => Update::withdraw(block),
-    }
+    Update::announce(block, networks).unwrap_or(Update::withdraw(block))
 }
 
 // Whether 0, 2 and 3 are told.
@@ -41,26 +38,6 @@ fn whom(audience: Audience) -> (bool, bool, bool) {
         audience.contains(2),
         audience.contains(3),
     )
-}
-
-fn heard(answer: Result<Audience, Fault>) -> Result<(bool, bool, bool), Fail> {
-    match answer {
-        Ok(audience) => Ok(whom(audience)),
-        Err(_) => Err(Fail::new("refused")),
-    }
-}
-
-fn refused(answer: Result<Audience, Fault>, fault: Fault) -> Result<(), Fail> {
-    match answer {
-        Err(told) => {
-            if told == fault {
-                Ok(())
-            } else {
-                Err(Fail::new("refused for another fault"))
-            }
-        },
-        Ok(_) => Err(Fail::new("taken")),
-    }
 }
 
 #[test]
@@ -80,7 +57,7 @@ fn told_and_taken_back(rt: HostRuntime) -> Result<(), Fail> {
     ];
     for (from, update, told) in cases {
         let (next, answer) = router.hear(&ties, &mut tables, from, update);
-        assert_eq!(rt; heard(answer)?, told);
+        assert_eq!(rt; whom(answer?), told);
         router = next;
     }
     Ok(())
@@ -117,7 +94,7 @@ fn a_link_that_there_is_not(rt: HostRuntime) -> Result<(), Fail> {
     let ties = ties(rt)?;
     let mut tables = blocks(rt)?;
     let (_, turned) = Router::new(1).turn(&ties, &mut tables, 1, true);
-    assert!(rt; matches!(turned, Err(Fault::NoLink)));
+    assert_eq!(rt; turned, Err(Fault::NoLink));
     Ok(())
 }
 
@@ -138,7 +115,7 @@ fn refusals(rt: HostRuntime) -> Result<(), Fail> {
     ];
     for (from, block, networks, fault) in cases {
         let (_, answer) = router.hear(&ties, &mut tables, from, update(block, networks));
-        refused(answer, fault)?;
+        assert_eq!(rt; answer.err(), Some(fault));
     }
     Ok(())
 }
@@ -154,7 +131,8 @@ fn a_path_too_long(rt: HostRuntime) -> Result<(), Fail> {
         networks: [0; 64],
     };
     let (_, answer) = router.hear(&ties, &mut tables, 0, Update::Announce(long));
-    refused(answer, Fault::BadLength)
+    assert_eq!(rt; answer.err(), Some(Fault::BadLength));
+    Ok(())
 }
 
 #[test]
@@ -164,5 +142,6 @@ fn a_link_that_is_down(rt: HostRuntime) -> Result<(), Fail> {
     let router = started(&ties, &mut tables);
     let (router, _) = router.turn(&ties, &mut tables, 0, false);
     let (_, answer) = router.hear(&ties, &mut tables, 0, update(0, &[0]));
-    refused(answer, Fault::LinkDown)
+    assert_eq!(rt; answer.err(), Some(Fault::LinkDown));
+    Ok(())
 }

@@ -1,5 +1,6 @@
 -- The words in which a faulty line is told. Assumes nothing.
 use Rattle.std.specs.Prelude.{ℕ, List, ◌++◌, codes, decimal}
+use Rattle.text.specs.Faults as faults
 use Rattle.script.specs.declared.cause.Cause.{Cause}
 use Rattle.script.specs.declared.cause.Cause.TheVariants.{BadByte, UnknownWord, MissingWord, SurplusWord, NotANumber, NoSuchNetwork, NoSuchBlock}
 
@@ -12,6 +13,9 @@ cause_words NotANumber = codes "not a number"
 cause_words NoSuchNetwork = codes "a network not below n"
 cause_words NoSuchBlock = codes "no such block"
 
+abbrev pub line_words : ℕ → List ℕ
+line_words line = codes "line " ++ decimal line
+
 -- the number of the fault, the line and the cause
 abbrev pub fault_words : ℕ → ℕ → List ℕ → List ℕ
-fault_words number line text = codes "fault " ++ (decimal number ++ (codes " at line " ++ (decimal line ++ (codes ": " ++ text))))
+fault_words number line text = faults.fault_words number (line_words line) text

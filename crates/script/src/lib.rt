@@ -19,4 +19,4 @@ pub use laws::{
 };
 pub use naming::read_network;
 pub use script::Script;
-pub use wording::LineFault;
+pub use wording::Line;

@@ -1,17 +1,17 @@
 // A faulty line in words.
-ghost use Rattle.std.specs.Prelude.{◌≡◌, Some, option_map};
-ghost use Rattle.script.specs.Faults.{number as number_of};
-ghost use Rattle.script.specs.Words.{cause_words, fault_words};
+ghost use Rattle.std.specs.Prelude.{◌≡◌, Some};
+ghost use Rattle.script.specs.Faults.{number};
+ghost use Rattle.script.specs.Words.{cause_words, line_words};
 
 use crate::cause::Cause;
 use std::error::Error;
 use std::fmt;
+use text::Numbered;
 
-impl Cause {
-    // The number of the fault.
-    pub fn number(self) -> u8
-        ensures { result ≡ number_of self }
-    {
+impl Numbered for Cause {
+    ghost number_of = { number };
+
+    fn number(&self) -> u8 {
         match self {
             Cause::BadByte
             | Cause::UnknownWord
@@ -21,7 +21,9 @@ impl Cause {
             Cause::NoSuchNetwork | Cause::NoSuchBlock => 2,
         }
     }
+}
 
+impl Cause {
     // The cause in words.
     pub fn text(self) -> &'static str
         ensures { result.now ≡ cause_words self }
@@ -48,22 +50,14 @@ impl fmt::Display for Cause {
 
 impl Error for Cause {}
 
-// What is told of a faulty line, as `fault 6 at line 3: nothing is in flight`.
+// A line of a script, counted from 1.
 #[derive(Clone, Copy, Debug)]
-pub struct LineFault<C> {
-    pub number: u8,
-    pub line: usize,
-    pub cause: C,
-}
+pub struct Line(pub usize);
 
-impl<C: fmt::Display> fmt::Display for LineFault<C> {
-    ghost output = { λ fault. option_map (fault_words fault.number fault.line) (C.output fault.cause) };
+impl fmt::Display for Line {
+    ghost output = { λ line. Some (line_words line.0) };
 
     fn fmt<W: fmt::Write>(&self, f: &mut fmt::Formatter<W>) -> fmt::Result {
-        write!(
-            f,
-            "fault {} at line {}: {}",
-            self.number, self.line, self.cause
-        )
+        write!(f, "line {}", self.0)
     }
 }

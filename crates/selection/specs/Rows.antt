@@ -31,3 +31,7 @@ said path = cond (length path == 0) None (Some path)
 -- as before, but for one row
 abbrev pub with_row : Rows → ℕ → ℕ → Option (List ℕ) → Rows
 with_row before block neighbour says b j = cond (b == block && j == neighbour) says (before b j)
+
+-- as before, but for all rows of one neighbour, which say nothing
+abbrev pub without : Rows → ℕ → Rows
+without before neighbour b j = cond (j == neighbour) None (before b j)

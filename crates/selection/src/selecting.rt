@@ -71,6 +71,7 @@ pub fn select<'a>(node: Node, received: &'a PathTable, block: u16, home: u8) -> 
         let new = keys(node, j, path);
         if let Route::Via { neighbour, path } = best {
             let old = keys(node, neighbour, path);
+            // Left by the label at the first difference, a form that the project asks for (docs/DECISIONS.md).
             for (new, old) in new.iter().zip(&old) {
                 if new > old {
                     continue 'candidates;

@@ -8,7 +8,8 @@ mod row;
 use crate::table::row::Row;
 pub use methods::MOST_BLOCKS;
 
-// For each block a row for each of the 64 neighbours that there may be.
+// For each block a row for each of the 64 neighbours that there may be. That the number of blocks stays, and that nothing
+// changes where false is answered, are clauses of each step, since an invariant speaks of one moment.
 #[derive(Drop)]
 pub struct PathTable {
     blocks: Vec<[Row; 64]>,

@@ -1,5 +1,5 @@
 -- Each step leads to a state of a run. Assumes nothing.
-use Rattle.std.proofs.Common.{◌≡◌, ℕ, ◌<◌, Bool, true, ltb, List, [], ◌∷◌, length, sym, refl, ap, ◌∙◌, subst, true≢false, arith}
+use Rattle.std.proofs.Common.{◌≡◌, ℕ, ◌<◌, Bool, true, ltb, List, [], ◌∷◌, length, sym, refl, ap, ◌∙◌, set, vec_items, subst, true≢false, arith}
 use mathlib.Core.Logic.{∥∥₁_map}
 use Rattle.std.proofs.lemmas.Bool.{and_parts, ltb-true}
 use Rattle.relations.specs.Sound.{networks}
@@ -12,7 +12,7 @@ use Rattle.mail.specs.declared.letter.Letter.{Letter}
 use Rattle.mail.specs.declared.network.Network.{Network}
 use Rattle.simulation.specs.declared.simulation.Simulation.{Simulation}
 use Rattle.simulation.specs.Steps.{both, first_heard, hearing}
-use Rattle.mail.specs.Whole.{nowhere}
+use Rattle.mail.specs.Whole.{nowhere, number_of, whole}
 
 -- hearing where something is in flight is a move
 pub heard_move : (w : World) (i j : ℕ) (s : State) → both w i j ≡ true → 0 < length (s.flight i j) → Move w nowhere s (hearing w i j s)
@@ -34,12 +34,15 @@ turned_reach w i j up s apart h tied r =
     let p = and_parts (ltb i w.n) (ltb j w.n) h in
     change r (turns s i j up (ltb-true i w.n p.0) (ltb-true j w.n p.1) (λ e. true≢false (sym tied ∙ ap (λ k. related (w.rel i k)) (sym e) ∙ ap related apart)) tied)
 
+-- what was made aside, at the place of its own number
+pub put_state : (x : Simulation) (j : ℕ) (next : State) (y : Network) (ls : List Letter) → Aside x j next y ls → whole (set (vec_items x.networks) (number_of y) y) ls ≡ next
+put_state x j next y ls aside = ap (λ n. whole (set (vec_items x.networks) n y) ls) aside.number ∙ aside.state
+
 -- what was made aside may take its place
-pub heard_ready : (x : Simulation) (i j : ℕ) (y : Network) (ls : List Letter) → both (world_of x) i j ≡ true → 0 < length ((state_of x).flight i j) → Aside x j (hearing (world_of x) i j (state_of x)) y ls → Ready x j y ls
+pub heard_ready : (x : Simulation) (i j : ℕ) (y : Network) (ls : List Letter) → both (world_of x) i j ≡ true → 0 < length ((state_of x).flight i j) → Aside x j (hearing (world_of x) i j (state_of x)) y ls → Ready x y ls
 heard_ready x i j y ls h some aside = record {
-  there = ltb-true j (networks x.relations) (and_parts (ltb i (networks x.relations)) (ltb j (networks x.relations)) h).1;
-  number = aside.number;
+  there = subst (λ n. n < networks x.relations) (sym aside.number) (ltb-true j (networks x.relations) (and_parts (ltb i (networks x.relations)) (ltb j (networks x.relations)) h).1);
   homes = aside.homes;
   within = aside.within;
-  reached = ∥∥₁_map x.reached (λ r. subst (Reach (world_of x) nowhere) (sym aside.state) (heard_reach (world_of x) i j (state_of x) h some r));
+  reached = ∥∥₁_map x.reached (λ r. subst (Reach (world_of x) nowhere) (sym (put_state x j (hearing (world_of x) i j (state_of x)) y ls aside)) (heard_reach (world_of x) i j (state_of x) h some r));
 }

@@ -1,9 +1,9 @@
 -- A step made aside is the step of the model. Assumes nothing.
-use Rattle.std.proofs.Common.{◌≡◌, ℕ, zero, suc, ◌+◌, ◌<◌, Bool, true, cond, eqb, List, [], ◌∷◌, ◌++◌, map, length, get_or, take, drop, set, sym, refl, ap, ◌∙◌, ⊎_elim, arith, length-set}
+use Rattle.std.proofs.Common.{◌≡◌, ltb, true, vec_items, ℕ, zero, suc, ◌+◌, ◌<◌, Bool, cond, eqb, List, [], ◌∷◌, ◌++◌, map, length, get_or, take, drop, set, sym, refl, ap, ◌∙◌, ⊎_elim, arith, length-set}
 use lib.ListN.{length-map}
 use lib.Seq.{map-set}
 use Rattle.std.proofs.lemmas.List.{drop-map, get_or-map, get_or-set_other, get_or-set_same, map-append, take-map}
-use Rattle.std.proofs.lemmas.Bool.{cases_eq, eq-eqb, ne_eqb}
+use Rattle.std.proofs.lemmas.Bool.{and_parts, ltb-true, cases_eq, eq-eqb, ne_eqb}
 use Rattle.relations.specs.Sound.{networks}
 use Rattle.relations.specs.declared.sound.Relations.{Relations}
 use Rattle.links.specs.Hearing.{after_hearing, after_turning, every, forgotten, hearing_fault, only, outbox_on_hearing, outbox_on_turning, replaced, sent_on_hearing, sent_on_turning, turning_fault}
@@ -12,11 +12,13 @@ use Rattle.links.specs.Run.{State, appended, queued, turned, update, updates}
 use Rattle.links.specs.World.{World}
 use Rattle.mail.proofs.Posted.{Front}
 use Rattle.mail.specs.Posts.{Post, cut, flying, inside, mail, meant, posts}
-use Rattle.simulation.specs.Steps.{first_heard, hearing}
-use Rattle.mail.specs.Whole.{BothTurned, Stepped, ground, ground_of, homes_of, local, local_at, number_of, whole}
+use Rattle.simulation.specs.Steps.{afloat, both, first_heard, hearing}
+use Rattle.mail.specs.Whole.{BothTurned, whole, Stepped, ground, ground_of, homes_of, local, local_at, number_of}
 use Rattle.mail.specs.declared.letter.Letter.{Letter}
 use Rattle.mail.specs.declared.network.Network.{Network}
-use Rattle.simulation.proofs.Counting.{inside_append, inside_cut, inside_mail, inside_without}
+use Rattle.simulation.specs.Simulated.{Aside, Aside2, state_of, world_of}
+use Rattle.simulation.specs.declared.simulation.Simulation.{Simulation}
+use Rattle.simulation.proofs.Counting.{counted, inside_append, inside_cut, inside_mail, inside_without}
 use Rattle.simulation.proofs.Flights.{between_unless, flying_appended, flying_cut, flying_without, lost_one}
 
 -- one network made anew
@@ -69,23 +71,44 @@ local_here xs j x l e = ap local e ∙ sym (get_or-map local xs j x silent l)
 posts_without : (k : ℕ) (ls : List Letter) → posts (take k ls ++ drop (k + 1) ls) ≡ take k (posts ls) ++ drop (k + 1) (posts ls)
 posts_without k ls = map-append meant (take k ls) (drop (k + 1) ls) ∙ sym (λ x. take-map meant k ls x ++ drop-map meant (k + 1) ls x)
 
-module _ (r : Relations) (homes : List ℕ) (xs : List Network) (ls : List Letter) where
-  abbrev w : World
-  w = ground r homes
+pub heard_some : (i j k : ℕ) (u : Update) (ls : List Letter) → Front i j k u (posts ls) → 0 < length (flying (posts ls) i j)
+heard_some i j k u ls old = let e = ap (λ us. length (map update us)) (lost_one i j k u (posts ls) old) in omega (arith, e)
 
-  abbrev s : State
-  s = whole xs ls
+module _ (m : Simulation) where
+  abbrev r : Relations
+  r = m.relations
+
+  abbrev xs : List Network
+  xs = vec_items m.networks
+
+  abbrev ls : List Letter
+  ls = vec_items m.letters
+
+  abbrev w : World
+  w = world_of m
+
+  here : (j : ℕ) → j < networks r → j < length xs
+  here j h = omega (arith, h, m.all, m.networks.ok.0)
 
   -- network x, which is number j, heard the oldest from i
-  module _ (i j k : ℕ) (u : Update) (x y : Network) (left after : List Letter) (hi : i < networks r) (hj : j < networks r) (l : j < length xs) (e : x ≡ get_or xs j x) (number : number_of x ≡ j) (same : homes_of x ≡ homes) (old : Front i j k u (posts ls)) (cut_out : left ≡ take k ls ++ drop (k + 1) ls) (step : Stepped x (after_hearing (ground_of r x) (number_of x) i u (local x)) (outbox_on_hearing (ground_of r x) (number_of x) i u (local x)) left after y) where
+  module _ (i j k : ℕ) (u : Update) (x y : Network) (left after : List Letter) (below : both w i j ≡ true) (e : x ≡ get_or xs j x) (old : Front i j k u (posts ls)) (cut_out : left ≡ take k ls ++ drop (k + 1) ls) (step : Stepped x (after_hearing (ground_of r x) (number_of x) i u (local x)) (outbox_on_hearing (ground_of r x) (number_of x) i u (local x)) left after y) where
+    hj : j < networks r
+    hj = ltb-true j _ (and_parts _ _ below).1
+
+    number : number_of x ≡ j
+    number = number_at xs j x (here j hj) e (m.numbers j)
+
+    same : homes_of x ≡ vec_items m.homes
+    same = homes_at xs j x (vec_items m.homes) (here j hj) e (m.same j)
+
     abbrev rest : List Post
     rest = take k (posts ls) ++ drop (k + 1) (posts ls)
 
     holds : local y ≡ after_hearing w j i u (local_at xs j)
-    holds = step.holds ∙ (λ z. after_hearing (ground r (same z)) (number z) i u (local_here xs j x l e z))
+    holds = step.holds ∙ (λ z. after_hearing (ground r (same z)) (number z) i u (local_here xs j x (here j hj) e z))
 
     all_letters : posts after ≡ rest ++ mail j (outbox_on_hearing w j i u (local_at xs j))
-    all_letters = step.letters ∙ (λ z. (ap posts cut_out ∙ posts_without k ls) z ++ mail (number z) (outbox_on_hearing (ground r (same z)) (number z) i u (local_here xs j x l e z)))
+    all_letters = step.letters ∙ (λ z. (ap posts cut_out ∙ posts_without k ls) z ++ mail (number z) (outbox_on_hearing (ground r (same z)) (number z) i u (local_here xs j x (here j hj) e z)))
 
     flights : (a c : ℕ) → flying (posts after) a c ≡ appended j (λ n. updates (sent_on_hearing w j i u (local_at xs j) n)) (queued i j (flying rest i j) (flying (posts ls))) a c
     flights a c =
@@ -93,48 +116,66 @@ module _ (r : Relations) (homes : List ℕ) (xs : List Network) (ls : List Lette
         flying_appended rest (mail j (outbox_on_hearing w j i u (local_at xs j))) j (sent_on_hearing w j i u (local_at xs j)) (between_unless w j (only u.block) (replaced i u (local_at xs j)) (hearing_fault w j (local_at xs j) i u)) a c ∙
         ap (λ q. cond (eqb a j) (q ++ updates (sent_on_hearing w j i u (local_at xs j) c)) q) (flying_without i j k u (posts ls) old a c)
 
-    pub heard_whole : whole (set xs j y) after ≡ hearing w i j s
-    heard_whole =
-        (λ z. record { locals = λ a. (local_set xs j y a l ∙ ap (λ h. at j h (local_at xs) a) holds) z; flight = λ a c. flights a c z }) ∙
-        sym (ap (λ q. first_heard w i j q s) (ap (map update) (lost_one i j k u (posts ls) old)))
+    pub heard_aside : Aside m j (hearing w i j (state_of m)) y after
+    heard_aside = record {
+      number = step.number ∙ number;
+      homes = step.homes ∙ same;
+      within = ap (inside (networks r)) all_letters ∙ inside_append (networks r) rest (mail j (outbox_on_hearing w j i u (local_at xs j))) (inside_without (networks r) k (posts ls) m.within) (inside_mail w j (only u.block) (replaced i u (local_at xs j)) (hearing_fault w j (local_at xs j) i u) hj);
+      state =
+          (λ z. record { locals = λ a. (local_set xs j y a (here j hj) ∙ ap (λ h. at j h (local_at xs) a) holds) z; flight = λ a c. flights a c z }) ∙
+          sym (ap (λ q. first_heard w i j q (state_of m)) (ap (map update) (lost_one i j k u (posts ls) old)));
+    }
 
-    pub heard_within : inside (networks r) (posts ls) ≡ true → inside (networks r) (posts after) ≡ true
-    heard_within h = ap (inside (networks r)) all_letters ∙ inside_append (networks r) rest (mail j (outbox_on_hearing w j i u (local_at xs j))) (inside_without (networks r) k (posts ls) h) (inside_mail w j (only u.block) (replaced i u (local_at xs j)) (hearing_fault w j (local_at xs j) i u) hj)
-
-pub heard_some : (i j k : ℕ) (u : Update) (ls : List Letter) → Front i j k u (posts ls) → 0 < length (flying (posts ls) i j)
-heard_some i j k u ls old = let e = ap (λ us. length (map update us)) (lost_one i j k u (posts ls) old) in omega (arith, e)
-
-module _ (r : Relations) (homes : List ℕ) (xs : List Network) (ls : List Letter) where
   -- the link of i and j turned: x, which is number i, stepped, and then z, which is number j
-  module _ (i j : ℕ) (up : Bool) (x x' z z' : Network) (left after : List Letter) (hi : i < networks r) (hj : j < networks r) (li : i < length xs) (lj : j < length xs) (ei : x ≡ get_or xs i x) (ej : z ≡ get_or xs j z) (ni : number_of x ≡ i) (nj : number_of z ≡ j) (si : homes_of x ≡ homes) (sj : homes_of z ≡ homes) (cut_out : posts left ≡ cut i j (posts ls)) (both : BothTurned r x z i j up left after (x', z')) where
-    abbrev v : World
-    v = ground r homes
+  module _ (i j : ℕ) (up : Bool) (x x' z z' : Network) (left after : List Letter) (hi : i < networks r) (hj : j < networks r) (ei : x ≡ get_or xs i x) (ej : z ≡ get_or xs j z) (cut_out : posts left ≡ cut i j (posts ls)) (turned_both : BothTurned r x z up left after (x', z')) where
+    ni : number_of x ≡ i
+    ni = number_at xs i x (here i hi) ei (m.numbers i)
 
-    one_holds : local x' ≡ after_turning v i j up (local_at xs i)
-    one_holds = both.holds ∙ (λ t. after_turning (ground r (si t)) (ni t) j up (local_here xs i x li ei t))
+    nj : number_of z ≡ j
+    nj = number_at xs j z (here j hj) ej (m.numbers j)
 
-    other_holds : local z' ≡ after_turning v j i up (local_at xs j)
-    other_holds = both.holds2 ∙ (λ t. after_turning (ground r (sj t)) (nj t) i up (local_here xs j z lj ej t))
+    si : homes_of x ≡ vec_items m.homes
+    si = homes_at xs i x (vec_items m.homes) (here i hi) ei (m.same i)
 
-    sent_both : posts after ≡ (cut i j (posts ls) ++ mail i (outbox_on_turning v i j up (local_at xs i))) ++ mail j (outbox_on_turning v j i up (local_at xs j))
-    sent_both = both.letters ∙ (λ t. (cut_out t ++ mail (ni t) (outbox_on_turning (ground r (si t)) (ni t) j up (local_here xs i x li ei t))) ++ mail (nj t) (outbox_on_turning (ground r (sj t)) (nj t) i up (local_here xs j z lj ej t)))
+    sj : homes_of z ≡ vec_items m.homes
+    sj = homes_at xs j z (vec_items m.homes) (here j hj) ej (m.same j)
 
-    turned_flights : (a c : ℕ) → flying (posts after) a c ≡ appended j (λ n. updates (sent_on_turning v j i up (local_at xs j) n)) (appended i (λ n. updates (sent_on_turning v i j up (local_at xs i) n)) (queued i j [] (queued j i [] (flying (posts ls))))) a c
+    one_holds : local x' ≡ after_turning w i j up (local_at xs i)
+    one_holds = turned_both.holds ∙ (λ t. after_turning (ground r (si t)) (ni t) (nj t) up (local_here xs i x (here i hi) ei t))
+
+    other_holds : local z' ≡ after_turning w j i up (local_at xs j)
+    other_holds = turned_both.holds2 ∙ (λ t. after_turning (ground r (sj t)) (nj t) (ni t) up (local_here xs j z (here j hj) ej t))
+
+    sent_both : posts after ≡ (cut i j (posts ls) ++ mail i (outbox_on_turning w i j up (local_at xs i))) ++ mail j (outbox_on_turning w j i up (local_at xs j))
+    sent_both = turned_both.letters ∙ (λ t. (cut_out t ++ mail (ni t) (outbox_on_turning (ground r (si t)) (ni t) (nj t) up (local_here xs i x (here i hi) ei t))) ++ mail (nj t) (outbox_on_turning (ground r (sj t)) (nj t) (ni t) up (local_here xs j z (here j hj) ej t)))
+
+    turned_flights : (a c : ℕ) → flying (posts after) a c ≡ appended j (λ n. updates (sent_on_turning w j i up (local_at xs j) n)) (appended i (λ n. updates (sent_on_turning w i j up (local_at xs i) n)) (queued i j [] (queued j i [] (flying (posts ls))))) a c
     turned_flights a c =
         ap (λ ps. flying ps a c) sent_both ∙
-        flying_appended (cut i j (posts ls) ++ mail i (outbox_on_turning v i j up (local_at xs i))) (mail j (outbox_on_turning v j i up (local_at xs j))) j (sent_on_turning v j i up (local_at xs j)) (between_unless v j every (forgotten i up (local_at xs j)) (turning_fault v j i)) a c ∙
-        ap (λ q. cond (eqb a j) (q ++ updates (sent_on_turning v j i up (local_at xs j) c)) q)
-        (flying_appended (cut i j (posts ls)) (mail i (outbox_on_turning v i j up (local_at xs i))) i (sent_on_turning v i j up (local_at xs i)) (between_unless v i every (forgotten j up (local_at xs i)) (turning_fault v i j)) a c ∙ ap (λ q. cond (eqb a i) (q ++ updates (sent_on_turning v i j up (local_at xs i) c)) q) (flying_cut i j (posts ls) a c))
+        flying_appended (cut i j (posts ls) ++ mail i (outbox_on_turning w i j up (local_at xs i))) (mail j (outbox_on_turning w j i up (local_at xs j))) j (sent_on_turning w j i up (local_at xs j)) (between_unless w j every (forgotten i up (local_at xs j)) (turning_fault w j i)) a c ∙
+        ap (λ q. cond (eqb a j) (q ++ updates (sent_on_turning w j i up (local_at xs j) c)) q)
+        (flying_appended (cut i j (posts ls)) (mail i (outbox_on_turning w i j up (local_at xs i))) i (sent_on_turning w i j up (local_at xs i)) (between_unless w i every (forgotten j up (local_at xs i)) (turning_fault w i j)) a c ∙ ap (λ q. cond (eqb a i) (q ++ updates (sent_on_turning w i j up (local_at xs i) c)) q) (flying_cut i j (posts ls) a c))
 
-    turned_locals : (a : ℕ) → local_at (set (set xs j z') i x') a ≡ at i (after_turning v i j up (local_at xs i)) (at j (after_turning v j i up (local_at xs j)) (local_at xs)) a
+    turned_locals : (a : ℕ) → local_at (set (set xs j z') i x') a ≡ at i (after_turning w i j up (local_at xs i)) (at j (after_turning w j i up (local_at xs j)) (local_at xs)) a
     turned_locals a =
-        local_set (set xs j z') i x' a (omega (arith, length-set xs j z')) ∙
-        (λ t. cond (eqb a i) (one_holds t) ((local_set xs j z' a lj ∙ ap (λ h. at j h (local_at xs) a) other_holds) t))
+        local_set (set xs j z') i x' a (omega (arith, here i hi, length-set xs j z')) ∙
+        (λ t. cond (eqb a i) (one_holds t) ((local_set xs j z' a (here j hj) ∙ ap (λ h. at j h (local_at xs) a) other_holds) t))
 
-    pub turned_whole : whole (set (set xs j z') i x') after ≡ turned v i j up (whole xs ls)
-    turned_whole = λ t. record { locals = λ a. turned_locals a t; flight = λ a c. turned_flights a c t }
+    pub turned_aside : Aside2 m i j (turned w i j up (state_of m)) x' z' after
+    turned_aside = record {
+      number = turned_both.number ∙ ni;
+      number2 = turned_both.number2 ∙ nj;
+      homes = turned_both.homes ∙ si;
+      homes2 = turned_both.homes2 ∙ sj;
+      within =
+          ap (inside (networks r)) sent_both ∙
+          inside_append (networks r) (cut i j (posts ls) ++ mail i (outbox_on_turning w i j up (local_at xs i))) (mail j (outbox_on_turning w j i up (local_at xs j))) (inside_append (networks r) (cut i j (posts ls)) (mail i (outbox_on_turning w i j up (local_at xs i))) (inside_cut (networks r) i j (posts ls) m.within) (inside_mail w i every (forgotten j up (local_at xs i)) (turning_fault w i j) hi)) (inside_mail w j every (forgotten i up (local_at xs j)) (turning_fault w j i) hj);
+      state = λ t. record { locals = λ a. turned_locals a t; flight = λ a c. turned_flights a c t };
+    }
 
-    pub turned_within : inside (networks r) (posts ls) ≡ true → inside (networks r) (posts after) ≡ true
-    turned_within h =
-        ap (inside (networks r)) sent_both ∙
-        inside_append (networks r) (cut i j (posts ls) ++ mail i (outbox_on_turning v i j up (local_at xs i))) (mail j (outbox_on_turning v j i up (local_at xs j))) (inside_append (networks r) (cut i j (posts ls)) (mail i (outbox_on_turning v i j up (local_at xs i))) (inside_cut (networks r) i j (posts ls) h) (inside_mail v i every (forgotten j up (local_at xs i)) (turning_fault v i j) hi)) (inside_mail v j every (forgotten i up (local_at xs j)) (turning_fault v j i) hj)
+-- as many updates are in flight as there are letters, so the test of the letters is that of the updates
+pub crowded : (m : Simulation) (nets : List Network) (posted given : List Letter) (t : State) (b : Bool) → inside (networks m.relations) (posts posted) ≡ true → whole nets posted ≡ t → given ≡ posted → b ≡ ltb 4096 (length given) → ltb 4096 (afloat (world_of m) t) ≡ b
+crowded m nets posted given t b within is same test =
+    let many = counted (networks m.relations) (posts posted) within in
+    let all : afloat (world_of m) t ≡ length given = sym (ap (afloat (world_of m)) is) ∙ many ∙ length-map posted meant ∙ sym (ap length same) in
+    ap (ltb 4096) all ∙ sym test

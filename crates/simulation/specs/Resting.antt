@@ -1,13 +1,15 @@
 -- Hearing until nothing is in flight. Assumes nothing.
-use Rattle.std.specs.Prelude.{◌≡◌, ℕ, ◌<◌, Bool, true, false, ◌&&◌, ◌||◌, List, [], length, Some, None, Option, ◌==◌, nat_lt, slice_index_or}
+use Rattle.std.specs.Prelude.{◌≡◌, ℕ, ◌<◌, Bool, true, false, ◌&&◌, ◌||◌, List, [], length, Some, None, Option, ◌==◌, nat_lt, slice_index_or, vec_items}
 use Rattle.std.specs.Ordering.{is_lt, nat_cmp, ordering_then}
 use Rattle.links.specs.Run.{State}
 use Rattle.links.specs.World.{World}
 use Rattle.convergence.specs.Levels.{Heights}
 use Rattle.convergence.specs.Measure.{left}
-use Rattle.mail.specs.Posting.{blank}
-use Rattle.mail.specs.Posts.{Post, between}
+use Rattle.mail.specs.Posting.{Oldest, blank}
+use Rattle.mail.specs.Posts.{Post, between, posts}
 use Rattle.mail.specs.declared.letter.Letter.{Letter}
+use Rattle.simulation.specs.Simulated.{letter_of, state_of, world_of}
+use Rattle.simulation.specs.declared.simulation.Simulation.{Simulation}
 use Rattle.simulation.specs.Steps.{both, hearing}
 
 -- less is left in flight, whatever heights the networks are given
@@ -22,6 +24,13 @@ lower a c i j = nat_lt a i || (a == i && nat_lt c j)
 abbrev pub LowestOf : List Post → Option (ℕ × ℕ) → Type 0
 LowestOf ps None = ps ≡ []
 LowestOf ps (Some (i, j)) = (0 < length (between i j ps)) × ((a c : ℕ) → lower a c i j ≡ true → between a c ps ≡ [])
+
+-- the letter at place k is the oldest of the lowest pair that has something in flight, between networks that there are
+pub record Foremost (x : Simulation) (k : ℕ) : Type 0 where
+  pub below : both (world_of x) (letter_of x k).from (letter_of x k).to ≡ true
+  pub some : 0 < length ((state_of x).flight (letter_of x k).from (letter_of x k).to)
+  pub lowest : LowestOf (posts (vec_items x.letters)) (Some ((letter_of x k).from, (letter_of x k).to))
+  pub oldest : Oldest (letter_of x k).from (letter_of x k).to k (vec_items x.letters)
 
 -- these are the ends of a letter, and no letter has lower ones, as pairs are compared
 abbrev pub LowestEnds : List Letter → ℕ × ℕ → Type 0

@@ -17,6 +17,8 @@ mod turning;
 pub use making::{MOST_BLOCKS, MOST_NETWORKS};
 
 // The networks stand in the order of their numbers; the letters, what is in flight, in the order in which they were sent.
+// That the relations and homes stay is a clause, `world`, of each function that changes it, since an invariant speaks of one
+// moment.
 #[derive(Drop)]
 pub struct Simulation {
     relations: Relations,

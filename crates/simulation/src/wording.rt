@@ -1,16 +1,17 @@
 // Why a step is not played, in words.
 ghost use Rattle.std.specs.Prelude.{◌≡◌, Some};
-ghost use Rattle.simulation.specs.Shown.{cause_words, number as number_of};
+ghost use Rattle.simulation.specs.Shown.{cause_words, number};
 
 use crate::cause::Cause;
 use std::error::Error;
 use std::fmt;
+use text::Numbered;
 
-impl Cause {
-    // The number of the fault; 0 for want of memory, which is none.
-    pub fn number(self) -> u8
-        ensures { result ≡ number_of self }
-    {
+impl Numbered for Cause {
+    ghost number_of = { number };
+
+    // 0 for want of memory, which is no fault
+    fn number(&self) -> u8 {
         match self {
             Cause::NoSuchNetwork => 2,
             Cause::NothingInFlight => 6,
@@ -19,7 +20,9 @@ impl Cause {
             Cause::Memory => 0,
         }
     }
+}
 
+impl Cause {
     // The cause in words.
     pub fn text(self) -> &'static str
         ensures { result.now ≡ cause_words self }

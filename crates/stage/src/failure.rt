@@ -1,9 +1,10 @@
 // What ends a program with status 1, and the line that tells it.
 use report::{HomeRefusal, StepFault};
-use script::LineFault;
+use script::Line;
 use std::alloc::{AllocError, AllocFailed, Global};
 use std::error::Error;
 use std::{fmt, io};
+use text::Fault;
 use ties::Refusal;
 
 #[derive(Debug, Drop)]
@@ -17,7 +18,7 @@ pub enum Failure {
     // more networks or blocks than can be rehearsed
     TooLarge,
     // a line of the script that is not read
-    Line(LineFault<script::Cause>),
+    Line(Fault<Line, script::Cause>),
     // a line of the script that is not played
     Step(StepFault),
     Memory,

@@ -6,16 +6,18 @@ ghost use Rattle.stage.specs.Reading.{Shortens};
 use crate::failure::{Failure, unmoved};
 use crate::loading::load;
 use crate::setting::set_up;
-use report::{Shown, StepFault, line_fault};
-use script::{Command, Limits, Script};
+use report::{Shown, StepFault};
+use script::{Command, Limits, Line, Script};
 use simulation::Simulation;
+use text::Fault;
 
 // The next command, or what is told of a faulty line.
 fn next(script: &mut Script<'_>, limits: Limits) -> Result<Option<Command>, Failure>
     ensures { Shortens result (length (left_of script.old)) (length (left_of script.new)) }
 {
     let next = script.next(limits);
-    next.map_err(|cause| Failure::Line(line_fault(cause, script.line())))
+    let place = Line(script.line());
+    next.map_err(|cause| Failure::Line(Fault { place, cause }))
 }
 
 // Plays a command, and writes what is shown to standard output.

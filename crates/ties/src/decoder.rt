@@ -5,7 +5,7 @@ ghost use Rattle.ties.specs.File.{networks as networks_in, ties as ties_in};
 ghost use Rattle.ties.specs.Outcome.{Read, TableRead, TiesRead};
 
 use crate::tie::{Head, Tie};
-use cycles::{Unsound, sound};
+use cycles::sound;
 use refusals::{Cause, Place, Refusal};
 use relations::{Matrix, Relations};
 use std::alloc::Global;
@@ -58,10 +58,5 @@ pub fn read(bytes: &[u8], most: u8, heap: Global) -> Result<Relations, Refusal>
     ensures { Read most bytes.now result }
 {
     let matrix = read_table(bytes, most, heap)?;
-    // no `From`, since both types are of other crates
-    match sound(matrix, heap) {
-        Ok(relations) => Ok(relations),
-        Err(Unsound::Cycle(ring)) => Err(Refusal::Cycle(ring)),
-        Err(Unsound::Memory) => Err(Refusal::Memory),
-    }
+    Ok(sound(matrix, heap)?)
 }

@@ -12,7 +12,7 @@ fn sixth(rt: HostRuntime) -> Result<Relations, Fail> {
     matrix.relate(4, 1, Relation::Customer);
     matrix.relate(4, 2, Relation::Peer);
     matrix.relate(4, 3, Relation::Provider);
-    Ok(sound(matrix, rt.alloc()).ok().ok_or("a cycle")?)
+    Ok(sound(matrix, rt.alloc())?)
 }
 
 // The paths that neighbours told: each begins with the neighbour.

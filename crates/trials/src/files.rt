@@ -1,6 +1,7 @@
 // Ties files, sound and damaged.
 use relations::MOST;
 use std::test::Fail;
+use text::Numbered;
 use ties::{Cause, Place, Refusal};
 
 // What is told of a file that is refused for one of its things.
@@ -51,9 +52,7 @@ fn faults_after_the_head(rt: HostRuntime) -> Result<(), Fail> {
 #[test]
 fn written_and_read_again(rt: HostRuntime) -> Result<(), Fail> {
     let file = [16, 4, 0, 5, 0, 1, 1, 0, 2, 1, 1, 2, 2, 3, 1, 1, 3, 2, 1];
-    let Ok(relations) = ties::read(&file, MOST, rt.alloc()) else {
-        return Err(Fail::new("refused"));
-    };
+    let relations = ties::read(&file, MOST, rt.alloc())?;
     let bytes = ties::encode(&relations, rt.alloc())?;
     assert!(rt; bytes.as_slice() == file.as_slice());
     Ok(())
@@ -62,9 +61,9 @@ fn written_and_read_again(rt: HostRuntime) -> Result<(), Fail> {
 #[test]
 fn a_ring_is_told(rt: HostRuntime) -> Result<(), Fail> {
     let file = [16, 4, 0, 3, 1, 2, 1, 2, 3, 1, 3, 1, 1];
-    let Err(refusal) = ties::read(&file, MOST, rt.alloc()) else {
-        return Err(Fail::new("not refused"));
-    };
+    let refusal = ties::read(&file, MOST, rt.alloc())
+        .err()
+        .ok_or("not refused")?;
     let line = refusal.to_string(rt.alloc())?;
     assert!(rt; line.as_str() == "fault 5 at end: a ring of customers: 1, 2, 3");
     Ok(())

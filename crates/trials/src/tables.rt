@@ -4,10 +4,7 @@ use std::test::Fail;
 
 // Is this the path of block 1 and neighbour 5?
 fn holds(table: &PathTable, path: &[u8]) -> bool {
-    match table.path(1, 5) {
-        Some(held) => held == path,
-        None => false,
-    }
+    table.path(1, 5) == Some(path)
 }
 
 #[test]

@@ -11,7 +11,7 @@ fn ties(rt: HostRuntime) -> Result<Relations, Fail> {
     matrix.relate(0, 1, Relation::Customer);
     matrix.relate(0, 2, Relation::Provider);
     matrix.relate(0, 3, Relation::Peer);
-    Ok(sound(matrix, rt.alloc()).ok().ok_or("a cycle")?)
+    Ok(sound(matrix, rt.alloc())?)
 }
 
 // Network 0 with its links up.

@@ -121,7 +121,8 @@ impl Router {
         self.retell(relations, tables, block)
     }
 
-    // Hears an update from a neighbour: refuses it, or takes it, selects anew for its block and tells.
+    // Hears an update from a neighbour: refuses it, or takes it, selects anew for its block and tells. The router is
+    // handed back as it was, a form that the project asks for (docs/DECISIONS.md).
     pub fn hear(
         self,
         relations: &Relations,

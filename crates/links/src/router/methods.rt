@@ -12,11 +12,11 @@ use advertisement::{Audience, advertise};
 use relations::Relations;
 use selection::{Node, Route, select};
 
-// Every link up, or every link down. The array stands apart, since its clause is proved here without an answer.
-fn links(up: bool) -> [bool; 64]
-    ensures { result ≡ replicate 64 up }
+// No link up. Apart, since what an array literal holds is known where a contract says it.
+fn none_up() -> [bool; 64]
+    ensures { result ≡ replicate 64 false }
 {
-    [up; 64]
+    [false; 64]
 }
 
 impl Router {
@@ -27,7 +27,20 @@ impl Router {
     {
         Router {
             number,
-            up: links(false),
+            up: none_up(),
+        }
+    }
+
+    // Its network among its neighbours.
+    fn node<'a>(&'a self, relations: &'a Relations) -> Node<'a>
+        ensures relations { result.relations.now ≡ relations.now }
+        ensures up { result.up.now ≡ self.now.up }
+        ensures me { result.me ≡ self.now.number }
+    {
+        Node {
+            relations,
+            up: &self.up,
+            me: self.number,
         }
     }
 
@@ -38,12 +51,7 @@ impl Router {
         let Some(home) = tables.home(block) else {
             return Route::Nothing;
         };
-        let node = Node {
-            relations,
-            up: &self.up,
-            me: self.number,
-        };
-        select(node, &tables.received, block, home)
+        select(self.node(relations), &tables.received, block, home)
     }
 
     // Selects anew for a block and tells: the answer names the neighbours to whom what now stands in the table goes.
@@ -56,11 +64,7 @@ impl Router {
         ensures whom { (k : ℕ) → in_audience result k ≡ sends (world relations.now tables.old) self.number (only block) (then_held self tables.new tables.old) block k }
     {
         let home = tables.homes[block as usize];
-        let node = Node {
-            relations,
-            up: &self.up,
-            me: self.number,
-        };
+        let node = self.node(relations);
         let route = select(node, &tables.received, block, home);
         advertise(node, &mut tables.advertised, block, route)
     }

@@ -36,7 +36,7 @@ impl Router {
     }
 
     // A link of its own turns, or is turned to what it is already: what went over it is forgotten, and every block told
-    // anew.
+    // anew. The router is handed back as it is then, a form that the project asks for (docs/DECISIONS.md).
     pub fn turn(
         self,
         relations: &Relations,
@@ -63,23 +63,12 @@ impl Router {
     }
 }
 
-// Forgets for one block what was received and advertised over the link to a neighbour.
-fn forget_block(tables: &mut Tables, block: u16, other: u8)
-    ensures homes { tables.new.homes ≡ tables.old.homes }
-    ensures received { (b k : ℕ) → row tables.new.received b k ≡ with_row (row tables.old.received) block other None b k }
-    ensures advertised { (b k : ℕ) → row tables.new.advertised b k ≡ with_row (row tables.old.advertised) block other None b k }
-{
-    tables.received.clear(block, other);
-    tables.advertised.clear(block, other);
-}
-
-// Forgets for all blocks what was received and advertised over the link to a neighbour.
+// Forgets what was received and advertised over the link to a neighbour.
 fn forget(tables: &mut Tables, other: u8)
     ensures homes { tables.new.homes ≡ tables.old.homes }
     ensures received { (b k : ℕ) → row tables.new.received b k ≡ at other None (row tables.old.received b) k }
     ensures advertised { (b k : ℕ) → row tables.new.advertised b k ≡ at other None (row tables.old.advertised b) k }
 {
-    for block in 0..tables.blocks() {
-        forget_block(tables, block, other);
-    }
+    tables.received.forget(other);
+    tables.advertised.forget(other);
 }

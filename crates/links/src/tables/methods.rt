@@ -9,6 +9,24 @@ use advertisement::{Audience, Update, update_of};
 use selection::{MOST_BLOCKS, PathTable};
 use std::alloc::{AllocError, Global};
 
+// Tables of their own that hold the same. By hand, since beside a ghost field it is derived only for a `Copy` type.
+impl Clone for Tables {
+    ghost is_clone = { Same };
+
+    fn clone(&self) -> Result<Tables, AllocError> {
+        let homes = self.homes.clone()?;
+        let received = self.received.clone()?;
+        let advertised = self.advertised.clone()?;
+        let audiences = self.audiences.clone()?;
+        Ok(Tables {
+            homes,
+            received,
+            advertised,
+            audiences,
+        })
+    }
+}
+
 impl Tables {
     // Nothing was received or advertised. None for more than 256 blocks.
     pub fn new(heap: Global, homes: &[u8]) -> Result<Option<Tables>, AllocError>
@@ -28,22 +46,6 @@ impl Tables {
             advertised,
             audiences,
         }))
-    }
-
-    // Tables of their own that hold the same. Beside a ghost field `Clone` is not derived.
-    pub fn duplicate(&self, heap: Global) -> Result<Tables, AllocError>
-        ensures { IfOk result (Same self.now) }
-    {
-        let homes = self.homes.to_vec(heap)?;
-        let received = self.received.duplicate(heap)?;
-        let advertised = self.advertised.duplicate(heap)?;
-        let audiences = self.audiences.to_vec(heap)?;
-        Ok(Tables {
-            homes,
-            received,
-            advertised,
-            audiences,
-        })
     }
 
     // How many blocks there are.

@@ -6,7 +6,6 @@ ghost use Rattle.mail.specs.Whole.{BothTurned, Stepped, ground_of, local, number
 
 use crate::letter::Letter;
 use crate::network::Network;
-use crate::posting::Sender;
 use advertisement::Update;
 use relations::Relations;
 use std::alloc::AllocError;
@@ -22,15 +21,11 @@ impl Network {
     ) -> Result<Network, AllocError>
         ensures { IfOk result (Stepped self.now (after_hearing (ground_of relations.now self.now) (number_of self.now) from (news update) (local self.now)) (outbox_on_hearing (ground_of relations.now self.now) (number_of self.now) from (news update) (local self.now)) letters.old.items letters.new.items) }
     {
-        let mut tables = self.tables.duplicate(*letters.allocator())?;
+        let mut tables = self.tables.clone()?;
         let (router, heard) = self.router.hear(relations, &mut tables, from, update);
-        let sender = Sender {
-            number: self.router.number(),
-            networks: relations.networks(),
-            tables: &tables,
-        };
-        sender.post_heard(letters, update.block(), heard)?;
-        Ok(Network { router, tables })
+        let network = Network { router, tables };
+        network.post_heard(relations.networks(), update.block(), heard, letters)?;
+        Ok(network)
     }
 
     // The network after its link to another turned.
@@ -43,31 +38,27 @@ impl Network {
     ) -> Result<Network, AllocError>
         ensures { IfOk result (Stepped self.now (after_turning (ground_of relations.now self.now) (number_of self.now) other up (local self.now)) (outbox_on_turning (ground_of relations.now self.now) (number_of self.now) other up (local self.now)) letters.old.items letters.new.items) }
     {
-        let mut tables = self.tables.duplicate(*letters.allocator())?;
+        let mut tables = self.tables.clone()?;
         let (router, turned) = self.router.turn(relations, &mut tables, other, up);
-        let sender = Sender {
-            number: self.router.number(),
-            networks: relations.networks(),
-            tables: &tables,
-        };
-        sender.post_turned(letters, turned)?;
-        Ok(Network { router, tables })
+        let network = Network { router, tables };
+        if turned.is_ok() {
+            network.post_all(relations.networks(), letters)?;
+        }
+        Ok(network)
     }
 }
 
-// Two networks, of the numbers i and j, after the link between them turned.
+// Two networks after the link between them turned.
 pub fn turn_both(
     relations: &Relations,
     one: &Network,
     other: &Network,
-    i: u8,
-    j: u8,
     up: bool,
     letters: &mut Vec<Letter>,
 ) -> Result<(Network, Network), AllocError>
-    ensures { IfOk result (BothTurned relations.now one.now other.now i j up letters.old.items letters.new.items) }
+    ensures { IfOk result (BothTurned relations.now one.now other.now up letters.old.items letters.new.items) }
 {
-    let one = one.turn(relations, j, up, letters)?;
-    let other = other.turn(relations, i, up, letters)?;
-    Ok((one, other))
+    let first = one.turn(relations, other.router.number(), up, letters)?;
+    let second = other.turn(relations, one.router.number(), up, letters)?;
+    Ok((first, second))
 }

@@ -1,22 +1,24 @@
 // A refusal of homes in words.
 ghost use Rattle.std.specs.Prelude.{◌≡◌, Some};
-ghost use Rattle.report.specs.Homes.{cause_words, number as number_of, refusal_words};
+ghost use Rattle.report.specs.Homes.{cause_words, home_words, number, refusal_words};
 
 use crate::homes::{HomeCause, HomeRefusal};
 use std::error::Error;
 use std::fmt;
+use text::{Fault, Numbered};
 
-impl HomeCause {
-    // The number of the fault.
-    pub fn number(self) -> u8
-        ensures { result ≡ number_of self }
-    {
+impl Numbered for HomeCause {
+    ghost number_of = { number };
+
+    fn number(&self) -> u8 {
         match self {
             HomeCause::Word(cause) => cause.number(),
             HomeCause::TooMany => 11,
         }
     }
+}
 
+impl HomeCause {
     // The cause in words.
     pub fn text(self) -> &'static str
         ensures { result.now ≡ cause_words self }
@@ -36,13 +38,26 @@ impl fmt::Display for HomeCause {
     }
 }
 
+// The place of a home.
+#[derive(Clone, Copy)]
+struct Home(usize);
+
+impl fmt::Display for Home {
+    ghost output = { λ home. Some (home_words home.0) };
+
+    fn fmt<W: fmt::Write>(&self, f: &mut fmt::Formatter<W>) -> fmt::Result {
+        write!(f, "home {}", self.0)
+    }
+}
+
 impl fmt::Display for HomeRefusal {
     ghost output = { λ refusal. Some (refusal_words refusal) };
 
     fn fmt<W: fmt::Write>(&self, f: &mut fmt::Formatter<W>) -> fmt::Result {
         match self {
             HomeRefusal::Fault { place, cause } => {
-                write!(f, "fault {} at home {place}: {cause}", cause.number())
+                let (place, cause) = (Home(*place), *cause);
+                write!(f, "{}", Fault { place, cause })
             }
             HomeRefusal::Memory => f.write_str("out of memory"),
         }

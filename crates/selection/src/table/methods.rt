@@ -2,7 +2,7 @@
 ghost use Rattle.std.specs.Prelude.{◌≡◌, ℕ, ◌+◌, ◌≤◌, min, ◌&&◌, ◌∷◌, ◌++◌, length, IfOk, Some, None, MatchBool, nat_le, nat_lt};
 ghost use Rattle.std.specs.Option.{option_map};
 ghost use Rattle.selection.specs.Paths.{count, row};
-ghost use Rattle.selection.specs.Rows.{said, with_row};
+ghost use Rattle.selection.specs.Rows.{said, with_row, without};
 
 use crate::table::PathTable;
 use crate::table::row::Row;
@@ -11,6 +11,16 @@ use std::alloc::{AllocError, Global};
 
 // The most blocks that a table has rows for.
 pub const MOST_BLOCKS: u16 = 256;
+
+// A table of its own that says the same. By hand, since beside a ghost field it is derived only for a `Copy` type.
+impl Clone for PathTable {
+    ghost is_clone = { λ t u. (count u ≡ count t) × ((b j : ℕ) → row u b j ≡ row t b j) };
+
+    fn clone(&self) -> Result<PathTable, AllocError> {
+        let blocks = self.blocks.clone()?;
+        Ok(PathTable { blocks })
+    }
+}
 
 impl PathTable {
     // No path is told. Of more than 256 blocks the first 256 are taken.
@@ -26,15 +36,6 @@ impl PathTable {
         ensures { IfOk result (λ t. (count t ≡ blocks) × ((b j : ℕ) → row t b j ≡ None)) }
     {
         let blocks = vec![in heap; [Row::empty(); 64]; blocks as usize]?;
-        Ok(PathTable { blocks })
-    }
-
-    // A table of its own that says the same. Beside a ghost field `Clone` is not derived, and written by hand it is no
-    // shorter: its promise would stand in a ghost member, and it takes no allocator.
-    pub fn duplicate(&self, heap: Global) -> Result<PathTable, AllocError>
-        ensures { IfOk result (λ t. (count t ≡ count self.now) × ((b j : ℕ) → row t b j ≡ row self.now b j)) }
-    {
-        let blocks = self.blocks.as_slice().to_vec(heap)?;
         Ok(PathTable { blocks })
     }
 
@@ -82,6 +83,16 @@ impl PathTable {
         self.write(block, neighbour, &[], &[]);
     }
 
+    // From now on `neighbour` told nothing for any block.
+    pub fn forget(&mut self, neighbour: u8)
+        ensures same { count self.new ≡ count self.old }
+        ensures after { (b j : ℕ) → row self.new b j ≡ without (row self.old) neighbour b j }
+    {
+        for block in 0..self.blocks() {
+            self.clear(block, neighbour);
+        }
+    }
+
     // Writes `head` and then `path` into the row of `block` and `neighbour`; of no network, nothing was told. False, and
     // nothing done, where they are more than 64, and for a block or a neighbour that there is not.
     #[tactic(auto, using(crate::proofs::Written::row_written))]
@@ -91,7 +102,7 @@ impl PathTable {
         ensures same { count self.new ≡ count self.old }
         ensures after { MatchBool result ((b j : ℕ) → row self.new b j ≡ with_row (row self.old) block neighbour (said (head.now ++ path.now)) b j) (self.new ≡ self.old) }
     {
-        if block >= self.blocks() || neighbour >= MOST || path.len() > 64 - head.len() {
+        if block >= self.blocks() || neighbour >= MOST || path.len() > MOST as usize - head.len() {
             return false;
         }
         let rows = &mut self.blocks[block as usize];

@@ -1,14 +1,13 @@
 // Hearing what is in flight.
 ghost use Rattle.std.specs.Prelude.{◌≡◌, ◌<◌, ◌≤◌, true, length, IfOk, MatchResult, OnOk, nat_lt, slice_set};
-ghost use Rattle.simulation.specs.Simulated.{Aside, Ready, state_of, world_of};
+ghost use Rattle.simulation.specs.Simulated.{Aside, Ready, letter_of, state_of, world_of};
 ghost use Rattle.simulation.specs.Resting.{Lessens};
 ghost use Rattle.simulation.specs.Steps.{Hears, NotHeard, both, hearing};
 ghost use Rattle.mail.specs.Posting.{Oldest};
-ghost use Rattle.mail.specs.Whole.{whole};
+ghost use Rattle.mail.specs.Whole.{number_of, whole};
 
 use crate::cause::Cause;
 use crate::simulation::Simulation;
-use advertisement::Update;
 use mail::{Letter, Network, oldest, without};
 use std::alloc::AllocError;
 
@@ -23,19 +22,13 @@ pub fn too_many(letters: &[Letter]) -> bool
 }
 
 impl Simulation {
-    // Network `to` as it is when it has heard the update at a place of the letters, the oldest from `from`, and what is left
-    // in flight then.
-    pub(crate) fn aside(
-        &self,
-        from: u8,
-        to: u8,
-        place: usize,
-        update: Update,
-    ) -> Result<(Network, Vec<Letter>), AllocError>
-        requires below { both (world_of self.now) from to ≡ true }
-        requires oldest { Oldest from to place update self.now.letters.items }
-        ensures { IfOk result (λ then. Aside self.now to (hearing (world_of self.now) from to (state_of self.now)) then.0 then.1.items) }
+    // The network that the letter at a place goes to, as it is when it has heard it, and what is left in flight then. The
+    // letter is the oldest between its ends.
+    pub(crate) fn aside(&self, place: usize) -> Result<(Network, Vec<Letter>), AllocError>
+        requires { Oldest (letter_of self.now place).from (letter_of self.now place).to place self.now.letters.items }
+        ensures { IfOk result (λ then. Aside self.now (letter_of self.now place).to (hearing (world_of self.now) (letter_of self.now place).from (letter_of self.now place).to (state_of self.now)) then.0 then.1.items) }
     {
+        let Letter { from, to, update } = self.letters[place];
         let mut letters = without(&self.letters, place, *self.letters.allocator())?;
         let network = self.networks[to as usize].hear(&self.relations, from, update, &mut letters)?;
         Ok((network, letters))
@@ -49,16 +42,17 @@ impl Simulation {
         if from >= networks || to >= networks {
             return Err(Cause::NoSuchNetwork);
         }
-        let (place, update) = oldest(&self.letters, from, to).ok_or(Cause::NothingInFlight)?;
-        Ok(self.aside(from, to, place, update)?)
+        let place = oldest(&self.letters, from, to).ok_or(Cause::NothingInFlight)?;
+        Ok(self.aside(place)?)
     }
 
     // A network and letters that were made aside take the place of those that there are.
-    pub(crate) fn place(&mut self, number: u8, network: Network, letters: Vec<Letter>)
-        requires { Ready self.old number network letters.items }
+    pub(crate) fn put(&mut self, network: Network, letters: Vec<Letter>)
+        requires { Ready self.old network letters.items }
         ensures world { world_of self.new ≡ world_of self.old }
-        ensures state { state_of self.new ≡ whole (slice_set self.old.networks.items number network) letters.items }
+        ensures state { state_of self.new ≡ whole (slice_set self.old.networks.items (number_of network) network) letters.items }
     {
+        let number = network.router.number();
         self.networks[number as usize] = network;
         self.letters = letters;
     }
@@ -73,7 +67,7 @@ impl Simulation {
         if too_many(&letters) {
             return Err(Cause::TooMany);
         }
-        self.place(to, network, letters);
+        self.put(network, letters);
         Ok(())
     }
 }

@@ -27,8 +27,6 @@ impl Simulation {
             &self.relations,
             &self.networks[one as usize],
             &self.networks[other as usize],
-            one,
-            other,
             up,
             &mut letters,
         )?;

@@ -2,17 +2,21 @@
 use Rattle.std.proofs.Common.{sym, subst, arith}
 use Rattle.relations.specs.Cycle.{First}
 use Rattle.relations.specs.Table.{rel}
-use Rattle.cycles.proofs.Rings.{no_cycle, fewest_shortest, is_first, none_more}
+use Rattle.cycles.proofs.Rings.{no_cycle, is_first, none_more}
 use Rattle.cycles.proofs.search.first_cycle.Goals as goal
 
-pub returns-then-steps-gt0 : goal.returns-then-steps-gt0
-returns-then-steps-gt0 c =
+pub ring-requires : goal.ring-requires
+ring-requires c = c.steps_to_low.ensures.some _ c.in-Some.is
+
+pub returns-in-Some : goal.returns-in-Some
+returns-in-Some c =
+    let short = c.steps_to_low.ensures.some _ c.in-Some.is in
     let traced = c.in_ok-ring.ensures in
     subst (λ l. First (rel c.args.matrix.now) l) (sym traced.added)
-    (is_first _ _ _ traced.way c.loop-low.invariant (fewest_shortest _ _ _ _ _ c.steps_to_low-steps.ensures c.if-steps-gt0.true) traced.least)
+    (is_first _ _ _ traced.way c.loop-low.invariant short traced.least)
 
 pub loop-low-preserved : goal.loop-low-preserved
-loop-low-preserved c = none_more _ _ _ c.steps_to_low-steps.ensures c.if-steps-gt0.false c.loop-low.invariant
+loop-low-preserved c = none_more _ _ (c.steps_to_low.ensures.none c.in_default.is) c.loop-low.invariant
 
 pub returns : goal.returns
 returns c =

@@ -1,7 +1,7 @@
-use Rattle.std.proofs.Common.{false, get_or, replicate, ap, ◌∙◌, ⊎_elim}
-use Rattle.std.proofs.lemmas.List.{get_or-replicate, get_or_past}
-use Rattle.std.proofs.lemmas.Bool.{cases_lt}
+-- Each place is false, and so is what lies past them.
+use Rattle.std.proofs.Common.{false, get_or, ap, ◌∙◌}
+use Rattle.relations.proofs.Tables.{get_or_same}
 use Rattle.links.proofs.router.Router.new.Goals as goal
 
 pub returns-clause-down : goal.returns-clause-down
-returns-clause-down c k = ap (λ l. get_or l k false) c.links.ensures ∙ ⊎_elim (get_or-replicate 64 k false false) (get_or_past (replicate 64 false) k false) (cases_lt k 64)
+returns-clause-down c k = ap (λ l. get_or l k false) c.none_up.ensures ∙ get_or_same 64 k false

@@ -1,7 +1,24 @@
--- The step on tables of its own.
-use Rattle.std.proofs.Common.{vec_items}
+-- The step on tables of its own; a refusal sends nothing.
+use Rattle.std.proofs.Common.{◌≡◌, ℕ, List, ◌++◌, vec_items, sym, ap, ◌∙◌, append-nil, vec_len}
+use Rattle.relations.specs.Sound.{networks}
+use Rattle.selection.specs.Paths.{row}
+use Rattle.links.specs.Local.{gather}
+use Rattle.mail.specs.Posting.{told_all, whom}
+use Rattle.mail.specs.Posts.{Post, mailing, posts}
+use Rattle.mail.proofs.Posted.{all_told, none_told}
 use Rattle.mail.proofs.Stepping.{turned_step}
 use Rattle.mail.proofs.network.Network.turn.Goals as goal
+use Rattle.mail.proofs.network.Network.turn.Goals.{then-is_ok+in_ok-post_all, else-is_ok}
 
 pub returns : goal.returns
-returns c = turned_step c.args.relations.now c.args.self.now c.in_ok-tables.tables c.turn-turned.new.tables c.in_ok-tables.ensures c.turn-turned.ensures.homes c.args.other c.args.up c.turn-turned.result.0 c.turn-turned.result.1 c.turn-turned.ensures.held c.turn-turned.ensures.answer _ _ (vec_items c.args.letters.now) _ c.turn-turned.ensures.number c.number.ensures c.networks.ensures c.in_ok-post_turned.ensures
+returns c =
+    let r = c.args.relations.now in
+    let before = posts (vec_items c.args.letters.now) in
+    let t = c.turn-turned.new.tables in
+    let me = c.turn-turned.result.0.number in
+    let told : ℕ → List Post = λ n. gather (λ b. mailing me b (whom (vec_items t.audiences) b) (row t.advertised b) n) (vec_len t.homes) in
+    let sent : posts (vec_items c.if-is_ok.letters) ≡ before ++ told_all c.turn-turned.result.1 (told (networks r)) = elim c.if-is_ok.branch [
+      | then-is_ok+in_ok-post_all w ↦ ap (λ v. posts (vec_items v)) w.letters-is ∙ w.in_ok-post_all.ensures ∙ ap (λ n. before ++ told n) w.networks.ensures ∙ ap (λ ps. before ++ ps) (sym (all_told c.turn-turned.result.1 _ (sym c.is_ok.ensures.value ∙ w.if-is_ok.true)))
+      | else-is_ok w ↦ ap (λ v. posts (vec_items v)) w.letters-is ∙ sym (append-nil before) ∙ ap (λ ps. before ++ ps) (sym (none_told c.turn-turned.result.1 _ (sym c.is_ok.ensures.value ∙ w.if-is_ok.false)))
+    ] in
+    turned_step r c.args.self.now c.in_ok-tables.tables t c.in_ok-tables.ensures.cases c.turn-turned.ensures.homes c.args.other c.args.up c.turn-turned.result.0 c.turn-turned.result.1 c.turn-turned.ensures.held c.turn-turned.ensures.answer (vec_items c.args.letters.now) _ c.turn-turned.ensures.number sent

@@ -1,31 +1,35 @@
 -- The oldest is taken out, and the network at its place steps.
-use Rattle.std.proofs.Common.{◌+◌, ◌<◌, ◌++◌, length, take, drop, vec_items, ◌∙◌, arith}
+use Rattle.std.proofs.Common.{◌&&◌, ltb, arith, ◌≡◌, true, ◌+◌, ◌++◌, take, drop, vec_items, sym, ◌∙◌, subst}
 use Rattle.std.proofs.lemmas.Bool.{and_parts, ltb-true}
-use Rattle.relations.specs.Sound.{networks}
+use Rattle.std.proofs.lemmas.List.{get_or_default}
 use Rattle.links.specs.Held.{news}
-use Rattle.mail.proofs.Posted.{oldest_front}
-use Rattle.simulation.proofs.Wholes.{heard_whole, heard_within, homes_at, number_at}
+use Rattle.mail.specs.Posting.{blank}
+use Rattle.mail.specs.Posts.{posts}
+use Rattle.mail.proofs.Posted.{Front, oldest_front}
+use Rattle.simulation.specs.Simulated.{Aside, letter_of, state_of, world_of}
+use Rattle.simulation.specs.Steps.{hearing}
+use Rattle.simulation.proofs.Wholes.{heard_aside}
+use Rattle.simulation.proofs.Lowest.{oldest_inside}
+use Rattle.relations.specs.Sound.{networks}
 use Rattle.simulation.proofs.simulation.Simulation.aside.Goals as goal
+
+pub index-requires-2 : goal.index-requires-2
+index-requires-2 c =
+    let x = c.args.self.now in
+    let letter = c.index.result.now in
+    let is : letter ≡ letter_of x c.args.place = c.index.ensures ∙ get_or_default (vec_items x.letters) c.args.place letter blank c.requires.there in
+    let n = networks x.relations in
+    let below : (ltb letter.from n && ltb letter.to n) ≡ true = oldest_inside x c.args.place letter is c.requires in
+    omega (arith, ltb-true letter.to n (and_parts (ltb letter.from n) (ltb letter.to n) below).1, x.all)
 
 pub returns : goal.returns
 returns c =
     let x = c.args.self.now in
-    let i = c.args.from in
-    let j = c.args.to in
-    let xs = vec_items x.networks in
-    let here = c.index.result.now in
-    let old = oldest_front i j c.args.place c.args.update (vec_items x.letters) c.requires.oldest in
-    let below = and_parts _ _ c.requires.below in
-    let hi : i < networks x.relations = ltb-true i _ below.0 in
-    let hj : j < networks x.relations = ltb-true j _ below.1 in
-    let l : j < length xs = omega (arith, hj, x.all, x.networks.ok.0) in
-    let number = number_at xs j here l c.index.ensures (x.numbers j) in
-    let homes = homes_at xs j here (vec_items x.homes) l c.index.ensures (x.same j) in
-    let left = c.in_ok-letters.ensures ∙ (λ z. take c.args.place (c.deref.ensures.value z) ++ drop (c.args.place + 1) (c.deref.ensures.value z)) in
-    let step = c.in_ok-network.ensures in
-    record {
-      number = step.number ∙ number;
-      homes = step.homes ∙ homes;
-      within = heard_within x.relations (vec_items x.homes) xs (vec_items x.letters) i j c.args.place (news c.args.update) here c.in_ok-network.network _ _ hi hj l c.index.ensures number homes old left step x.within;
-      state = heard_whole x.relations (vec_items x.homes) xs (vec_items x.letters) i j c.args.place (news c.args.update) here c.in_ok-network.network _ _ hi hj l c.index.ensures number homes old left step;
-    }
+    let k = c.args.place in
+    let ls = vec_items x.letters in
+    let then = c.in_ok-network.network in
+    let letter = c.index.result.now in
+    let is : letter ≡ letter_of x k = c.index.ensures ∙ get_or_default ls k letter blank c.requires.there in
+    let old = subst (λ l. Front l.from l.to k (news l.update) (posts ls)) (sym is) (oldest_front _ _ k ls c.requires) in
+    let left = c.in_ok-letters.ensures ∙ (λ z. take k (c.deref.ensures.value z) ++ drop (k + 1) (c.deref.ensures.value z)) in
+    subst (λ l. Aside x l.to (hearing (world_of x) l.from l.to (state_of x)) then (vec_items c.hear.new.letters)) is (heard_aside x letter.from letter.to k (news letter.update) c.index-2.result.now then _ _ (oldest_inside x k letter is c.requires) c.index-2.ensures old left c.in_ok-network.ensures)

@@ -1,27 +1,19 @@
 -- What was made aside takes its place.
-use Rattle.std.proofs.Common.{set, vec_items, sym, refl, ap, ◌∙◌, subst, arith}
+use Rattle.std.proofs.Common.{set, vec_items, sym, refl, ◌∙◌, subst}
 use mathlib.Core.Logic.{∥∥₁_map}
-use lib.ListN.{length-map}
 use Rattle.std.proofs.lemmas.Bool.{ltb-false, ltb-true}
-use Rattle.relations.specs.Sound.{networks}
 use Rattle.links.specs.Run.{Reach}
-use Rattle.mail.specs.Posts.{meant, posts}
 use Rattle.simulation.specs.Simulated.{state_of, world_of}
-use Rattle.simulation.specs.Steps.{afloat}
 use Rattle.mail.specs.Whole.{nowhere}
-use Rattle.simulation.proofs.Counting.{counted}
 use Rattle.simulation.proofs.Reaching.{turned_reach}
-use Rattle.simulation.proofs.Wholes.{homes_set, number_set}
+use Rattle.simulation.proofs.Wholes.{crowded, homes_set, number_set}
 use Rattle.simulation.proofs.simulation.Simulation.turn.Goals as goal
 
 pub returns-then-too_many : goal.returns-then-too_many
 returns-then-too_many c =
-    let x = c.args.self.now in
     let done = c.in_ok-first.ensures in
-    let ls = vec_items c.in_ok-first.letters in
-    let many = counted (networks x.relations) (posts ls) done.2.within in
-    let same = ap (afloat (world_of x)) done.2.state in
-    record { world = refl; played = ((done.0, done.1, omega (arith, many, same, length-map ls meant, c.in_ok-first.letters.ok.0, ltb-true 4096 _ (sym c.too_many.ensures ∙ c.if-too_many.true), c.deref.ensures.len)), refl) }
+    let full = crowded c.args.self.now _ (vec_items c.in_ok-first.letters) _ _ _ done.2.within done.2.state c.deref.ensures.value c.too_many.ensures in
+    record { world = refl; played = ((done.0, done.1, ltb-true 4096 _ (full ∙ c.if-too_many.true)), refl) }
 
 pub invariant_of-self : goal.invariant_of-self
 invariant_of-self c =
@@ -41,14 +33,5 @@ pub returns : goal.returns
 returns c =
     let x = c.args.self.now in
     let done = c.in_ok-first.ensures in
-    let ls = vec_items c.in_ok-first.letters in
-    let many = counted (networks x.relations) (posts ls) done.2.within in
-    record {
-      world = refl;
-      played = record {
-        below = done.0;
-        tied = done.1;
-        room = omega (arith, many, length-map ls meant, c.in_ok-first.letters.ok.0, ltb-false 4096 _ (sym c.too_many.ensures ∙ c.if-too_many.false), c.deref.ensures.len);
-        step = done.2.state;
-      };
-    }
+    let full = crowded x (set (set (vec_items x.networks) c.args.other c.in_ok-first.second) c.args.one c.in_ok-first.first) (vec_items c.in_ok-first.letters) _ _ _ done.2.within refl c.deref.ensures.value c.too_many.ensures in
+    record { world = refl; played = record { below = done.0; tied = done.1; room = ltb-false 4096 _ (full ∙ c.if-too_many.false); step = done.2.state } }

@@ -3,12 +3,13 @@ use Rattle.std.proofs.Common.{◌++◌, vec_items, sym, ap, ◌∙◌}
 use Rattle.selection.specs.Paths.{row}
 use Rattle.mail.specs.Posting.{told_by}
 use Rattle.mail.specs.Posts.{mailing, posts}
+use Rattle.mail.specs.Whole.{number_of}
 use Rattle.mail.proofs.Posted.{nobody_told}
-use Rattle.mail.proofs.posting.Sender.post_heard.Goals as goal
+use Rattle.mail.proofs.network.Network.post_heard.Goals as goal
 
 pub returns-in-Err : goal.returns-in-Err
 returns-in-Err c =
     let me = c.args.self.now in
     let before = posts (vec_items c.args.letters.now) in
-    let says = row me.tables.now.advertised c.args.block in
-    nobody_told me.number c.args.block me.networks c.in-Err.field-0 says before ∙ ap (λ h. before ++ mailing me.number c.args.block (told_by h) says me.networks) (sym c.in-Err.is)
+    let says = row me.tables.advertised c.args.block in
+    nobody_told (number_of me) c.args.block c.args.networks c.in-Err.field-0 says before ∙ ap (λ h. before ++ mailing (number_of me) c.args.block (told_by h) says c.args.networks) (sym c.in-Err.is)

@@ -4,7 +4,7 @@ use Rattle.selection.specs.Paths.{row}
 use Rattle.links.specs.Local.{gather}
 use Rattle.mail.specs.Posting.{whom}
 use Rattle.mail.specs.Posts.{mailing, posts}
-use Rattle.mail.proofs.posting.Sender.post_all.Given as goal
+use Rattle.mail.proofs.network.Network.post_all.Given as goal
 
 abbrev pub invariant-loop-block : goal.invariant-loop-block
-invariant-loop-block l = posts (vec_items l.letters) ≡ posts (vec_items l.initial.letters) ++ gather (λ b. mailing l.self.number b (whom (vec_items l.self.tables.now.audiences) b) (row l.self.tables.now.advertised b) l.self.networks) l.block
+invariant-loop-block l = posts (vec_items l.letters) ≡ posts (vec_items l.initial.letters) ++ gather (λ b. mailing l.self.router.number b (whom (vec_items l.self.tables.audiences) b) (row l.self.tables.advertised b) l.networks) l.block
