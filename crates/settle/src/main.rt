@@ -65,7 +65,8 @@ impl From<AllocError> for Failure {
     }
 }
 
-// The bytes of a file, or of standard input where the path is `-`.
+// The bytes of a file, or of standard input where the path is `-`. A match, and no `map_err`, since copying the path may
+// want memory.
 fn load(rt: &HostRuntime, path: &str) -> Result<Vec<u8>, Failure> {
     let heap = rt.alloc();
     if path == "-" {
@@ -85,8 +86,7 @@ fn load(rt: &HostRuntime, path: &str) -> Result<Vec<u8>, Failure> {
 fn check(rt: &HostRuntime, path: &str) -> Result<(), Failure> {
     let bytes = load(rt, path)?;
     let relations = ties::read(bytes.as_slice(), MOST, rt.alloc()).map_err(Failure::Ties)?;
-    let line = ties::summary(&relations, rt.alloc())?;
-    rt.println(line.as_str())?;
+    rt.println(ties::summary(&relations, rt.alloc())?)?;
     Ok(())
 }
 

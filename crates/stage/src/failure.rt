@@ -53,7 +53,7 @@ impl<T: Drop> From<AllocFailed<T>> for Failure {
     }
 }
 
-// What was to be read or written, and why it was not.
+// What was to be read or written, and why it was not; copying what it was may want memory.
 pub fn unmoved(heap: Global, what: &str, error: io::Error) -> Failure {
     match String::from_str(heap, what) {
         Ok(what) => Failure::Unmoved { what, error },

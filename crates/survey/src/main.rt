@@ -7,11 +7,10 @@ use std::{env, fs};
 fn survey(rt: &HostRuntime, path: &str) -> anyhow::Result<()> {
     let heap = rt.alloc();
     let bytes = fs::read(rt, path)?;
-    let line = match ties::read(bytes.as_slice(), MOST, heap) {
-        Ok(relations) => ties::summary(&relations, heap)?,
-        Err(refusal) => refusal.to_string(heap)?,
-    };
-    rt.println(line.as_str())?;
+    match ties::read(bytes.as_slice(), MOST, heap) {
+        Ok(relations) => rt.println(ties::summary(&relations, heap)?)?,
+        Err(refusal) => rt.println(refusal)?,
+    }
     Ok(())
 }
 
