@@ -1,6 +1,7 @@
--- Who is to be told. Assumes nothing.
-use Rattle.std.specs.Prelude.{ℕ, Bool, false, slice_index_or}
-use Rattle.advertisement.specs.declared.audience.Audience.{Audience}
+-- Who is to be told: a set of networks. Assumes nothing.
+use Rattle.std.specs.Prelude.{ℕ, Bool}
+use Rattle.selection.specs.Sets.{member}
+pub use Rattle.selection.specs.declared.set.NetworkSet.{NetworkSet as Audience}
 
 abbrev pub in_audience : Audience → ℕ → Bool
-in_audience a k = slice_index_or a.told k false
+in_audience a k = member a k

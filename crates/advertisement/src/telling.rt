@@ -9,10 +9,12 @@ ghost use Rattle.advertisement.specs.Audiences.{in_audience};
 ghost use Rattle.advertisement.specs.Sayings.{same_saying};
 ghost use Rattle.advertisement.specs.Telling.{tells, told};
 
-use crate::audience::Audience;
 use crate::policy::may_tell;
 use relations::MOST;
-use selection::{Node, PathTable, Route, is_up};
+use selection::{NetworkSet, Node, PathTable, Route, is_up};
+
+// Which neighbours are to be told.
+pub type Audience = NetworkSet;
 
 // The path that the network puts itself in front of and tells the neighbour, if it tells one.
 fn onward<'a>(node: Node, route: Route<'a>, neighbour: u8) -> Option<&'a [u8]>
@@ -44,7 +46,6 @@ fn is_told(last: Option<&[u8]>, me: u8, path: Option<&[u8]>) -> bool
 
 // Tells the neighbour what the network goes by for the block, if it is something else than it told last; the answer says
 // whether it was. What is told stands in the table from then on; where the table has no row for it, nothing is told.
-#[tactic(auto, using(selection::proofs::Past::row_absent))]
 pub fn tell(node: Node, advertised: &mut PathTable, block: u16, route: Route, neighbour: u8) -> bool
     ensures test { result ≡ (nat_lt block (count advertised.old) && nat_lt neighbour 64 && not (same_saying (told (relation_to node.entry) node.entry.me neighbour (meaning route.entry)) (row advertised.old block neighbour))) }
     ensures same { count advertised.new ≡ count advertised.old }
@@ -65,7 +66,8 @@ pub fn tell(node: Node, advertised: &mut PathTable, block: u16, route: Route, ne
 }
 
 // Tells the neighbour if its link is up. Apart, so that the loop of `advertise`, proved by hand, has one call that says
-// what each row is then.
+// what each row is then. The table is lent to be written, and block and route are the caller's: no struct, which each would
+// take apart.
 fn tell_if_up(
     node: Node,
     advertised: &mut PathTable,
@@ -86,7 +88,7 @@ pub fn advertise(node: Node, advertised: &mut PathTable, block: u16, route: Rout
     ensures whom { (k : ℕ) → in_audience result k ≡ (nat_lt block (count advertised.old) && nat_lt k (networks_around node.entry) && link_up node.entry k && not (same_saying (tells (relation_to node.entry) (link_up node.entry) node.entry.me k (meaning route.entry)) (row advertised.old block k))) }
     ensures same { count advertised.new ≡ count advertised.old }
 {
-    let mut audience = Audience::nobody();
+    let mut audience = Audience::none();
     for k in 0..node.relations.networks() {
         if tell_if_up(node, advertised, block, route, k) {
             audience.insert(k);

@@ -1,5 +1,5 @@
 // What one network tells another of a block: a path, or that it takes back what it told.
-ghost use Rattle.std.specs.Prelude.{◌≡◌, ◌≤◌, ◌&&◌, ltb, length, take, is_some, IfSome, if◌then◌else◌, Some, None, nat_le, nat_lt};
+ghost use Rattle.std.specs.Prelude.{◌≡◌, ◌≤◌, ◌&&◌, length, take, is_some, IfSome, if◌then◌else◌, Some, None, nat_le, nat_lt};
 ghost use Rattle.std.specs.Option.{option_map};
 ghost use Rattle.selection.specs.Paths.{row};
 ghost use Rattle.advertisement.specs.Updates.{block_of, said};
@@ -16,6 +16,8 @@ pub struct Announcement {
     pub networks: [u8; 64],
 }
 
+// An enum, and no struct of a block and an `Option`: `Announcement`, in the form that the project asks for, has the block in
+// it.
 #[derive(Clone, Copy)]
 pub enum Update {
     Announce(Announcement),
@@ -25,7 +27,7 @@ pub enum Update {
 impl Announcement {
     // The path, as the part of the array where it stands; none for a length of 0 or above 64.
     pub fn path(&self) -> Option<&[u8]>
-        ensures { option_map (λ x. x.now) result ≡ (if ltb 0 self.now.length && nat_le self.now.length 64 then Some (take self.now.length self.now.networks) else None) }
+        ensures { option_map (λ x. x.now) result ≡ (if nat_lt 0 self.now.length && nat_le self.now.length 64 then Some (take self.now.length self.now.networks) else None) }
     {
         if self.length == 0 {
             return None;

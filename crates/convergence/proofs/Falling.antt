@@ -1,5 +1,5 @@
 -- What is left in flight falls with every move, so the telling ends. Assumes nothing.
-use Rattle.std.proofs.Common.{◌≡◌, ℕ, zero, suc, ◌+◌, ◌-◌, ◌*◌, ◌^◌, ◌<◌, ◌≤◌, true, false, cond, not, ◌&&◌, ltb, List, [], sym, refl, ap, ◌∙◌, ⊎_elim, arith}
+use Rattle.std.proofs.Common.{◌≡◌, ℕ, zero, suc, ◌+◌, ◌-◌, ◌*◌, ◌^◌, ◌<◌, ◌≤◌, Bool, true, false, cond, not, ◌&&◌, ltb, List, [], sym, refl, ap, ◌∙◌, ⊎_elim, arith}
 use native.Mathlib.Nat.{one-le-pow, pow-le-pow_right, pow-succ'}
 use Rattle.std.proofs.lemmas.Bool.{and_left, and_parts, and_right, cases_Bool, cases_lt, cond_both, cond-false, eqb-true, not_from_true}
 use Rattle.selection.specs.Choosing.{shorter}
@@ -39,39 +39,54 @@ module _ (w : World) (sound : Sound w) (height : ℕ → ℕ) (stands : Heights 
   abbrev then : Local
   then = replaced i u l
 
+  -- what is due to k of block b, whether it is sent, and what all that is sent to k weighs
+  abbrev owed : ℕ → ℕ → Bool
+  owed b k = due w (only u.block) then b k
+
+  abbrev goes : ℕ → ℕ → Bool
+  goes b k = sends w j (only u.block) then b k
+
+  abbrev sent_weight : ℕ → ℕ
+  sent_weight k = weigh w height j k (updates (sent w j (only u.block) then k))
+
+  -- what an update weighs at a level, and at the level above that of what was heard
+  abbrev at_level : ℕ → ℕ
+  at_level lev = (w.n + 1) ^ (2 * w.n - lev)
+
+  abbrev above : ℕ
+  above = at_level (suc (level w height i j))
+
   -- at no higher level than that of what was heard, the same is told as before
   same_told : (k : ℕ) → k < w.n → level w height j k ≤ level w height i j → tells_now w j then u.block k ≡ tells_now w j l u.block k
   same_told k hk low =
       (lawful shorter w sound height stands u.block).law l.up j k (then.received u.block) (l.received u.block) hj hk
       (λ m hm lower. (replaced_takes i u l).others u.block m (λ e. let z = ap (λ y. level w height y j) e in omega (arith, z, lower, low)))
 
-  not_sent : (k : ℕ) → level w height j k ≤ level w height i j → sends w j (only u.block) then u.block k ≡ false
-  not_sent k low = ⊎_elim (λ d. and_right _ _ (not_from_true _ ((same_saying_decides_lem (tells_now w j then u.block k) (l.advertised u.block k)).1 (told d)))) (λ d. and_left _ _ d) (cases_Bool (due w (only u.block) then u.block k))
+  not_sent : (k : ℕ) → level w height j k ≤ level w height i j → goes u.block k ≡ false
+  not_sent k low = ⊎_elim (λ d. and_right _ _ (not_from_true _ ((same_saying_decides_lem (tells_now w j then u.block k) (l.advertised u.block k)).1 (told d)))) (λ d. and_left _ _ d) (cases_Bool (owed u.block k))
     where
-      told : due w (only u.block) then u.block k ≡ true → tells_now w j then u.block k ≡ l.advertised u.block k
+      told : owed u.block k ≡ true → tells_now w j then u.block k ≡ l.advertised u.block k
       told d = let h = due_is w (only u.block) then u.block k d in same_told k h.there low ∙ sym (coherent.told u.block k h.block h.there h.up)
 
-  of_block_only : (k b : ℕ) → sends w j (only u.block) then b k ≡ true → b ≡ u.block
-  of_block_only k b e = eqb-true b u.block (due_is w (only u.block) then b k (and_parts (due w (only u.block) then b k) (not (same_saying (tells_now w j then b k) (l.advertised b k))) e).0).one
+  of_block_only : (k b : ℕ) → goes b k ≡ true → b ≡ u.block
+  of_block_only k b e = eqb-true b u.block (due_is w (only u.block) then b k (and_parts (owed b k) (not (same_saying (tells_now w j then b k) (l.advertised b k))) e).0).one
 
-  sent_weighs : (k : ℕ) → weigh w height j k (updates (sent w j (only u.block) then k)) ≡ cond (ltb u.block w.blocks && sends w j (only u.block) then u.block k) ((w.n + 1) ^ (2 * w.n - level w height j k)) 0
+  sent_weighs : (k : ℕ) → sent_weight k ≡ cond (ltb u.block w.blocks && goes u.block k) (at_level (level w height j k)) 0
   sent_weighs k =
-      weigh_gather (weight w.n (level w height j k)) ((w.n + 1) ^ (2 * w.n - level w height j k)) (λ v. refl)
-      (λ b. sends w j (only u.block) then b k) (λ b. tells_now w j then b k) u.block (of_block_only k) w.blocks
+      weigh_gather (weight w.n (level w height j k)) (at_level (level w height j k)) (λ v. refl)
+      (λ b. goes b k) (λ b. tells_now w j then b k) u.block (of_block_only k) w.blocks
 
-  sent_light : (k : ℕ) → weigh w height j k (updates (sent w j (only u.block) then k)) ≤ (w.n + 1) ^ (2 * w.n - suc (level w height i j))
+  sent_light : (k : ℕ) → sent_weight k ≤ above
   sent_light k =
       ⊎_elim
       (λ high. let p = pow-le-pow_right {n = w.n + 1} (omega arith) {i = 2 * w.n - level w height j k} {j = 2 * w.n - suc (level w height i j)} (omega arith) in
-      cond_both (ltb u.block w.blocks && sends w j (only u.block) then u.block k) ((w.n + 1) ^ (2 * w.n - level w height j k)) 0
-      (λ y. weigh w height j k (updates (sent w j (only u.block) then k)) ≡ y → weigh w height j k (updates (sent w j (only u.block) then k)) ≤ (w.n + 1) ^ (2 * w.n - suc (level w height i j)))
-      (λ _ e. omega (arith, e, p)) (λ _ e. omega (arith, e)) (sent_weighs k))
-      (λ low. let e = sent_weighs k ∙ cond-false _ ((w.n + 1) ^ (2 * w.n - level w height j k)) 0 (and_right (ltb u.block w.blocks) _ (not_sent k low)) in omega (arith, e))
+      cond_both (ltb u.block w.blocks && goes u.block k) (at_level (level w height j k)) 0 (λ y. sent_weight k ≡ y → sent_weight k ≤ above) (λ _ e. omega (arith, e, p)) (λ _ e. omega (arith, e)) (sent_weighs k))
+      (λ low. let e = sent_weighs k ∙ cond-false _ (at_level (level w height j k)) 0 (and_right (ltb u.block w.blocks) _ (not_sent k low)) in omega (arith, e))
       (cases_lt (level w height i j) (level w height j k))
 
-  all_light : sum w.n (λ k. weigh w height j k (updates (sent w j (only u.block) then k))) < weight w.n (level w height i j) (update u)
+  all_light : sum w.n sent_weight < weight w.n (level w height i j) (update u)
   all_light =
-      let a = sum_le w.n (λ k. weigh w height j k (updates (sent w j (only u.block) then k))) ((w.n + 1) ^ (2 * w.n - suc (level w height i j))) (λ k _. sent_light k) in
+      let a = sum_le w.n sent_weight above (λ k _. sent_light k) in
       let b = lighter w.n (level w height i j) ((lawful shorter w sound height stands u.block).low i j hi hj) in
       omega (arith, a, b)
 

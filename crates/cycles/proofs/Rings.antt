@@ -6,7 +6,7 @@ use Rattle.std.proofs.ByRecursion.{All-append}
 use Rattle.std.proofs.lemmas.Bool.{cases_lt}
 use Rattle.relations.specs.Between.{Between, Within}
 use Rattle.relations.specs.Cycle.{Chain, Cycle, NoCycle, FromLowest, Smaller, Earlier, First}
-use Rattle.cycles.specs.Walk.{Climb, Fewest, FewestOr0, Shortest}
+use Rattle.cycles.specs.Walk.{Climb, Fewest, Shortest}
 use Rattle.cycles.specs.Trace.{Least, Next, Traced}
 use Rattle.relations.specs.declared.relation.Relation.TheVariants.{Provider}
 use Rattle.relations.proofs.Chains.{among, chain_join}
@@ -35,11 +35,6 @@ module _ (rel : Between) (low : ℕ) where
       let on = fewest.some k refl in
       let over = short.least (k + 1) (climb_front k at v low up high on.walk) in
       let is : k ≡ left = omega (arith, on.least left c, over) in other (ap Some is)
-
-  pub fewest_some : (k v w : ℕ) → FewestOr0 rel low k v w → 0 < k → Fewest rel low (Some k) v w
-  fewest_some k v w fewest h =
-      let short : Shortest rel low k v w = record { walk = fewest.real h; least = λ m c. (fewest.least m c).1 } in
-      record { some = λ n e. let is : k ≡ n = cc in subst (λ m. Shortest rel low m v w) is short; none = λ e. absurd (cc) }
 
   least_one : (at left : ℕ) → Shortest rel low left at low → left ≤ 1 → Least rel low at left []
   least_one at left short h =

@@ -8,7 +8,7 @@ use Rattle.std.proofs.lemmas.Bool.{cases_eq, cases_lt}
 use Rattle.std.proofs.lemmas.Bool.Decides.{nat_tests}
 use Rattle.relations.specs.Between.{Between, Mutual, Within, opposite}
 use Rattle.relations.specs.Cycle.{Chain}
-use Rattle.cycles.specs.Walk.{Climb, Known, Spread, Walked}
+use Rattle.cycles.specs.Walk.{Climb, Fewest, Known, Shortest, Spread, Walked, noted}
 use Rattle.relations.specs.declared.relation.Relation.TheVariants.{Customer, Provider}
 
 -- a provider stands in the table
@@ -213,10 +213,17 @@ module _ (rel : Between) (low : ℕ) where
         (seen, omega (arith, (known.real w seen).1)))
         (cases_lt m level)
 
+    -- the number that is noted is that of a walk, and of none with fewer steps
+    fewest : (k w : ℕ) → (0 < k → Climb rel low k s w) → ((m : ℕ) → Climb rel low m s w → (0 < k) × (k ≤ m)) → Fewest rel low (noted k) s w
+    fewest zero w real least = record { some = λ n e. absurd (cc); none = λ e m c. omega (arith, (least m c).0) }
+    fewest (suc k) w real least =
+        let short : Shortest rel low (suc k) s w = record { walk = real (omega arith); least = λ m c. (least m c).1 } in
+        record { some = λ n e. let is : suc k ≡ n = cc in subst (λ m. Shortest rel low m s w) is short; none = λ e. absurd (cc) }
+
     -- a level that meets none is the last
     pub walked_last : after ≡ before → Walked rel low s after
     walked_last same =
-        subst (λ l. Walked rel low s l) (sym same) (λ w. record { real = λ seen. (known.real w seen).0; least = λ m c. seen_all same m w c })
+        subst (λ l. Walked rel low s l) (sym same) (λ w. fewest _ w (λ seen. (known.real w seen).0) (λ m c. seen_all same m w c))
 
   -- the providers of the first network
   pub known_one : (s : ℕ) (before after : List ℕ) (met : Bool) → ((w : ℕ) → get_or before w 0 ≡ 0) → Spread rel low 1 (λ v w. v ≡ s) before after met → Known rel low 1 s after

@@ -1,5 +1,5 @@
 -- Walks up from a network, from customer to provider, and what a search by levels has met. Assumes nothing.
-use Rattle.std.specs.Prelude.{◌≡◌, ℕ, ◌+◌, ◌<◌, ◌≤◌, Bool, false, cond, Option, None, Some, List, length, count_by, nat_eq, slice_index}
+use Rattle.std.specs.Prelude.{◌≡◌, ℕ, zero, suc, ◌+◌, ◌<◌, ◌≤◌, Bool, false, cond, Option, None, Some, List, length, count_by, nat_eq, slice_index}
 use Rattle.std.specs.List.{AllByRecursion}
 use Rattle.relations.specs.Between.{Between}
 use Rattle.relations.specs.Cycle.{Chain}
@@ -40,11 +40,11 @@ pub record Known (rel : Between) (low level start : ℕ) (steps : List ℕ) : Ty
   pub real : (w : ℕ) → 0 < slice_index steps w → Climb rel low (slice_index steps w) start w × (slice_index steps w ≤ level)
   pub least : (m w : ℕ) → m ≤ level → Climb rel low m start w → (0 < slice_index steps w) × (slice_index steps w ≤ m)
 
--- k is the least number of steps from one network up to another, and 0 where no walk leads there
-pub record FewestOr0 (rel : Between) (low k from to : ℕ) : Type 0 where
-  pub real : 0 < k → Climb rel low k from to
-  pub least : (m : ℕ) → Climb rel low m from to → (0 < k) × (k ≤ m)
+-- a number of steps as it is noted: 0 stands for none
+abbrev pub noted : ℕ → Option ℕ
+noted zero = None
+noted (suc k) = Some (suc k)
 
 -- `steps` has for each network the least number of steps up to it, and 0 where no walk leads there
 abbrev pub Walked : Between → ℕ → ℕ → List ℕ → Type 0
-Walked rel low start steps = (w : ℕ) → FewestOr0 rel low (slice_index steps w) start w
+Walked rel low start steps = (w : ℕ) → Fewest rel low (noted (slice_index steps w)) start w

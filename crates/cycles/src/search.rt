@@ -41,7 +41,7 @@ impl Slope<'_> {
 pub fn first_cycle(matrix: &Matrix, heap: Global) -> Result<Option<Vec<u8>>, AllocError>
     ensures { IfOk result (λ o. MatchOption o (NoCycle (rel matrix.now)) (λ ring. First (rel matrix.now) ring.items)) }
 {
-    // a loop, since `find_map(..).transpose()` needs a closure in a closure for what `?` says here
+    // a loop: a chain would hand the steps on in a pair with their slope, or end in `transpose()` for what `?` says here
     for low in 0..matrix.networks() {
         let slope = Slope { matrix, low };
         if let Some(steps) = slope.steps_to_low(low) {

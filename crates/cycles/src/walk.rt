@@ -7,7 +7,7 @@ ghost use Rattle.cycles.specs.Walk.{Fewest, Known, Spread, Walked, unseen};
 use relations::{MOST, Matrix, Relation};
 
 // For each network how few steps lead up to it from where a walk starts.
-// 0 where none do, not `None`: what the levels keep true (`Spread`, `Known`) is said of a list of numbers.
+// 0 where none do, not `None`: `Spread` and `Known`, whose meaning stays, count those not yet seen as zeros.
 type Steps = [u8; 64];
 
 // The networks from `low` on, of those in a table.

@@ -3,7 +3,6 @@ use Rattle.std.proofs.Common.{◌≡◌, ℕ, ◌<◌, ◌≤◌, Bool, true, fa
 use Rattle.std.proofs.lemmas.List.{length-take-le}
 use Rattle.relations.specs.Sound.{networks, relation}
 use Rattle.relations.specs.declared.sound.Relations.{Relations}
-use Rattle.advertisement.specs.Updates.{block_of}
 use Rattle.advertisement.specs.declared.update.Update.{Update as Message}
 use Rattle.advertisement.specs.declared.update.Update.TheVariants.{Announce, Withdraw}
 use Rattle.links.specs.declared.tables.Tables.{Tables}
@@ -50,10 +49,6 @@ has_path t j a e h = is (ltb a.block (count t)) (ltb j 64) a.length (take a.leng
   where
     is : (x y : Bool) (k : ℕ) (q : List ℕ) → None ≡ cond (ltb 0 k && leb k 64) (Some q) None → (x && y && ltb 0 k && leb k 64) ≡ true → ◌≡◌ {A = ℕ} 0 1
     is x y k q e h = grind (arith, nat_tests)
-
-pub news_block : (u : Message) → (news u).block ≡ block_of u
-news_block (Announce a) = refl
-news_block (Withdraw block) = refl
 
 pub same_world : (r : Relations) (t u : Tables) → t.homes ≡ u.homes → world r t ≡ world r u
 same_world r t u e = λ x. record { n = networks r; rel = relation r; blocks = vec_len (e x); home = λ b. get_or (vec_items (e x)) b 0 }

@@ -7,8 +7,7 @@ use Rattle.relations.specs.declared.relation.Relation.{Relation}
 use Rattle.relations.specs.declared.relation.Relation.TheVariants.{Unrelated, Customer, Peer, Provider}
 use Rattle.selection.specs.Choosing.{related}
 use Rattle.advertisement.specs.Sayings.{same_saying}
-use Rattle.advertisement.specs.Audiences.{in_audience}
-use Rattle.advertisement.specs.declared.audience.Audience.{Audience}
+use Rattle.advertisement.specs.Audiences.{Audience, in_audience}
 use Rattle.links.specs.declared.fault.Fault.TheVariants.{NoLink, NoSuchNetwork}
 use Rattle.links.specs.World.{World}
 use Rattle.links.specs.Local.{Local, at, retold, sends, tells_now}

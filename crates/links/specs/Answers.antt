@@ -1,7 +1,6 @@
 -- What a router answers. Assumes nothing.
 use Rattle.std.specs.Prelude.{◌≡◌, ℕ, ◌<◌, Bool, List, Some, None, MatchResult, Option, Result, Ok, Err, slice_index_or}
-use Rattle.advertisement.specs.Audiences.{in_audience}
-use Rattle.advertisement.specs.declared.audience.Audience.{Audience}
+use Rattle.advertisement.specs.Audiences.{Audience, in_audience}
 use Rattle.links.specs.declared.fault.Fault.{Fault}
 use Rattle.links.specs.World.{World}
 use Rattle.links.specs.Local.{Update, Local, sends}

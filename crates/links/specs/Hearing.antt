@@ -1,7 +1,7 @@
 -- What a network does with what it hears and with a link that turns, refusals too. Assumes nothing.
 use Rattle.std.specs.Prelude.{ℕ, Bool, true, false, not, ◌||◌, List, [], ◌∷◌, length, Some, None, Option, ◌==◌, nat_le, nat_lt}
 use Rattle.relations.specs.Between.{Between}
-pub use Rattle.relations.specs.Lists.{first_of}
+use Rattle.std.specs.List.{find}
 use Rattle.selection.specs.Choosing.{related}
 use Rattle.links.specs.declared.fault.Fault.{Fault}
 use Rattle.links.specs.declared.fault.Fault.TheVariants.{BadLength, NoSuchNetwork, NoSuchBlock, NotRelated, LinkDown, WrongStart, WrongEnd, Repeats, NotPaid, NoLink}
@@ -27,7 +27,7 @@ abbrev pub faults : List Fault
 faults = BadLength ∷ NoSuchNetwork ∷ NoSuchBlock ∷ NotRelated ∷ LinkDown ∷ WrongStart ∷ WrongEnd ∷ Repeats ∷ NotPaid ∷ NoLink ∷ []
 
 abbrev pub told : (Fault → Bool) → Option Fault
-told has = first_of has faults
+told has = find has faults
 
 -- what is wrong with the teller of an update of a block that network i hears from network j
 abbrev pub teller_has : World → ℕ → Local → ℕ → ℕ → Fault → Bool

@@ -1,8 +1,9 @@
 -- What a router and its tables hold, in the terms of the rules. Assumes nothing.
-use Rattle.std.specs.Prelude.{ℕ, Bool, true, false, ◌&&◌, vec_items, vec_len, nat_le, nat_lt, slice_index, slice_index_or}
+use Rattle.std.specs.Prelude.{ℕ, Bool, true, ◌&&◌, vec_items, vec_len, nat_le, nat_lt, slice_index}
 use Rattle.relations.specs.Sound.{networks, relation}
 use Rattle.relations.specs.declared.sound.Relations.{Relations}
 use Rattle.selection.specs.Paths.{row}
+use Rattle.selection.specs.Sets.{member}
 use Rattle.advertisement.specs.Updates.{block_of, said}
 use Rattle.advertisement.specs.declared.update.Announcement.{Announcement}
 use Rattle.advertisement.specs.declared.update.Update.{Update as Message}
@@ -17,7 +18,7 @@ abbrev pub world : Relations → Tables → World
 world r t = record { n = networks r; rel = relation r; blocks = vec_len t.homes; home = λ b. slice_index (vec_items t.homes) b }
 
 abbrev pub links_up : Router → ℕ → Bool
-links_up r k = slice_index_or r.up k false
+links_up r k = member r.up k
 
 abbrev pub held : Router → Tables → Local
 held r t = record { up = links_up r; received = row t.received; advertised = row t.advertised }

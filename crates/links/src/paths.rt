@@ -1,7 +1,7 @@
 // What is asked of a path before it is held.
 ghost use Rattle.std.specs.Prelude.{◌≡◌, ◌&&◌};
 ghost use Rattle.relations.specs.Sound.{relation as relation_of};
-ghost use Rattle.links.specs.Paths.{allowed as allowed_by, begins as begins_by, below as below_by, ends as ends_by, is_provider, repeats as repeats_by, valley_free};
+ghost use Rattle.links.specs.Paths.{allowed as allowed_by, begins as begins_by, below as below_by, ends as ends_by, repeats as repeats_by, valley_free};
 
 use relations::{Relation, Relations};
 
@@ -26,7 +26,7 @@ pub fn below(path: &[u8], n: u8) -> bool
     path.iter().all(|network| *network < n)
 }
 
-// Whether the path names a network twice. A loop, since no chain without an index hands on a network with those after it.
+// Whether the path names a network twice. A loop: a chain would need an index, or `successors`, which is not known to end.
 pub fn repeats(path: &[u8]) -> bool
     ensures { result ≡ repeats_by path.now }
 {
@@ -51,12 +51,6 @@ fn allowed(climbing: bool, relation: Relation) -> bool
     }
 }
 
-fn climbs(climbing: bool, relation: Relation) -> bool
-    ensures { result ≡ (climbing && is_provider relation) }
-{
-    climbing && matches!(relation, Relation::Provider)
-}
-
 // Whether the path is valley-free, seen from network `me`: up to providers, at most once over to a peer, down to customers.
 pub fn is_valley_free(relations: &Relations, me: u8, path: &[u8]) -> bool
     ensures { result ≡ valley_free (relation_of relations.now) me path.now }
@@ -68,7 +62,7 @@ pub fn is_valley_free(relations: &Relations, me: u8, path: &[u8]) -> bool
         if !allowed(climbing, relation) {
             return false;
         }
-        climbing = climbs(climbing, relation);
+        climbing = climbing && relation == Relation::Provider;
         at = *network;
     }
     true

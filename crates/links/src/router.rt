@@ -4,10 +4,12 @@ mod methods;
 mod reading;
 mod turning;
 
-// An array, since a router has fixed memory. Relations and tables stay parameters of their own: the ones are lent to be
-// read, the others to be written.
+use selection::NetworkSet;
+
+// Relations and tables stay parameters of their own, and no struct holds both: callers have them apart (a `Network` its
+// tables, the `Simulation` the relations), so that one would be made for each call only to be taken apart.
 #[derive(Clone, Copy)]
 pub struct Router {
     number: u8,
-    up: [bool; 64],
+    up: NetworkSet,
 }

@@ -9,8 +9,10 @@ mod methods;
 
 // By block: the home; by block and neighbour: what was received and advertised last; and by block who was to be told
 // when a link turned last. Apart, and no list of blocks, since a step lends one table to be read and the other to be
-// written, whole, to functions that know of no homes or audiences, and the laws speak of one table of all blocks. That
-// the homes stay is a clause of each step, since an invariant speaks of one moment.
+// written, whole, to functions that know of no homes or audiences, and the laws speak of one table of all blocks. Homes
+// and audiences are two lists, since the homes stay at every step and the audiences change when a link turns, and a
+// clause says each of a whole list. That the homes stay is a clause of each step, and that the audiences stay one of each
+// step that hears, since an invariant speaks of one moment.
 #[derive(Drop)]
 pub struct Tables {
     pub(crate) homes: Vec<u8>,

@@ -1,12 +1,12 @@
 // What a sound ties file is told by.
-ghost use Rattle.std.specs.Prelude.{◌≡◌, length, IfOk, string_bytes};
+ghost use Rattle.std.specs.Prelude.{◌≡◌, length, Some};
 ghost use Rattle.relations.specs.Sound.{networks as networks_of, relation as relation_of};
 ghost use Rattle.listing.specs.Encoding.{listing, row};
 ghost use Rattle.listing.specs.Words.{summary_words};
 
 use crate::kind::listed_as;
 use relations::Relations;
-use std::alloc::{AllocError, Global};
+use std::fmt;
 
 // How many ties stand in the file with network i first.
 fn count_row(relations: &Relations, i: u8) -> u8
@@ -26,11 +26,16 @@ pub fn count_ties(relations: &Relations) -> u16
         .sum()
 }
 
-// The line that tells of sound relations. Only want of memory is an error.
-pub fn summary(relations: &Relations, heap: Global) -> Result<String, AllocError>
-    ensures { IfOk result (λ s. string_bytes s ≡ summary_words (networks_of relations.now) (relation_of relations.now)) }
-{
-    let networks = relations.networks();
-    let ties = count_ties(relations);
-    format!(in heap; "{networks} networks, {ties} ties, sound")
+// Shows what is told of sound relations, as `60 networks, 131 ties, sound`.
+#[derive(Clone, Copy)]
+pub struct Summary<'a>(pub &'a Relations);
+
+impl fmt::Display for Summary<'_> {
+    ghost output = { λ summary. Some (summary_words (networks_of summary.0.now) (relation_of summary.0.now)) };
+
+    fn fmt<W: fmt::Write>(&self, f: &mut fmt::Formatter<W>) -> fmt::Result {
+        let networks = self.0.networks();
+        let ties = count_ties(self.0);
+        write!(f, "{networks} networks, {ties} ties, sound")
+    }
 }

@@ -5,6 +5,6 @@ mod account;
 mod encoder;
 mod kind;
 
-pub use account::{count_ties, summary};
+pub use account::{Summary, count_ties};
 pub use encoder::{TIES, encode};
 pub use kind::{Kind, UnknownKind};

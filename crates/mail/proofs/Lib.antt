@@ -1,3 +1,4 @@
 pub mod Posted
 pub mod Mailed
 pub mod Stepping
+pub mod Counted

@@ -2,17 +2,17 @@
 use Rattle.std.proofs.Common.{Result, Ok, Err, ◌≡◌, ℕ, zero, suc, ◌<◌, Bool, true, false, cond, not, ◌&&◌, ltb, List, [], ◌∷◌, ◌++◌, map, length, get_or, sym, refl, ap, ◌∙◌, arith}
 use Rattle.std.proofs.lemmas.List.{map-append}
 use Rattle.std.proofs.lemmas.Bool.{ne_eqb}
-use Rattle.advertisement.specs.Audiences.{in_audience}
+use Rattle.advertisement.specs.Audiences.{Audience, in_audience}
 use Rattle.advertisement.specs.Sayings.{same_saying}
-use Rattle.advertisement.specs.declared.audience.Audience.{Audience}
 use Rattle.links.specs.Answers.{Answered, TurnAnswered}
 use Rattle.links.specs.Hearing.{after_hearing, after_turning, every, forgotten, only, outbox_on_hearing, outbox_on_turning, replaced, unless}
 use Rattle.links.specs.Local.{Local, Said, Update, due, gather, outbox, retold, sends, tells_now}
 use Rattle.links.specs.World.{World}
 use Rattle.links.specs.declared.fault.Fault.{Fault}
 use Rattle.links.proofs.Receiving.{there}
-use Rattle.mail.specs.Posting.{told_all, told_by, whom}
+use Rattle.mail.specs.Posting.{told_by, whom}
 use Rattle.mail.specs.Posts.{Post, mail, mailing}
+use Rattle.mail.proofs.Posted.{told_all}
 use Rattle.relations.proofs.Gathered.{gather_none, gather_one, gather_same}
 
 pub map_gather : {X Y : Type 0} (f : X → Y) (g : ℕ → List X) (m : ℕ) → map f (gather g m) ≡ gather (λ k. map f (g k)) m

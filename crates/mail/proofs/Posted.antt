@@ -6,15 +6,14 @@ use Rattle.std.specs.Result.{is_ok}
 use Rattle.std.specs.List.{filter}
 use Rattle.std.proofs.lemmas.List.{take-map, take_all, map_push, get_or-map}
 use Rattle.std.proofs.lemmas.Bool.Decides.{nat_tests}
-use Rattle.advertisement.specs.Audiences.{in_audience}
+use Rattle.advertisement.specs.Audiences.{Audience, in_audience}
 use Rattle.advertisement.specs.Updates.{block_of, said}
-use Rattle.advertisement.specs.declared.audience.Audience.{Audience}
 use Rattle.advertisement.specs.declared.update.Update.{Update as Message}
 use Rattle.links.specs.declared.fault.Fault.{Fault}
 use Rattle.links.specs.Held.{news}
 use Rattle.links.specs.Local.{Said, Update, gather}
 use Rattle.mail.specs.declared.letter.Letter.{Letter}
-use Rattle.mail.specs.Posting.{Oldest, blank, letter_at, told_all, told_by, whom}
+use Rattle.mail.specs.Posting.{Oldest, blank, letter_at, told_by, whom}
 use Rattle.mail.specs.Posts.{Post, addressed, between, cut, goes, mailing, meant, posts}
 use Rattle.relations.proofs.Gathered.{gather_more, gather_none}
 
@@ -90,6 +89,11 @@ by_audience audiences b a l e = get_or-map in_audience audiences b a (λ k. fals
 -- nothing is sent after a refusal
 pub nobody_told : (i block n : ℕ) (fault : Fault) (says : ℕ → Said) (ps : List Post) → ps ≡ ps ++ mailing i block (told_by (Err fault)) says n
 nobody_told i block n fault says ps = sym (append-nil ps) ∙ ap (λ t. ps ++ t) (sym (gather_none _ n (λ k h. refl)))
+
+-- what is sent after a link turned; nothing where that was refused
+abbrev pub told_all : Result (Unit {0}) Fault → List Post → List Post
+told_all (Ok _) ps = ps
+told_all (Err fault) ps = []
 
 pub all_told : (turned : Result (Unit {0}) Fault) (ps : List Post) → is_ok turned ≡ true → told_all turned ps ≡ ps
 all_told (Ok _) ps h = refl

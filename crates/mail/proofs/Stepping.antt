@@ -4,7 +4,7 @@ use Rattle.relations.specs.Sound.{networks, relation}
 use Rattle.relations.specs.declared.sound.Relations.{Relations}
 use Rattle.selection.specs.Paths.{row}
 use Rattle.advertisement.specs.Updates.{block_of}
-use Rattle.advertisement.specs.declared.audience.Audience.{Audience}
+use Rattle.advertisement.specs.Audiences.{Audience}
 use Rattle.advertisement.specs.declared.update.Update.{Update as Message}
 use Rattle.links.specs.Answers.{Answered, TurnAnswered}
 use Rattle.links.specs.Held.{held, links_up, news, world}
@@ -15,12 +15,13 @@ use Rattle.links.specs.World.{World}
 use Rattle.links.specs.declared.fault.Fault.{Fault}
 use Rattle.links.specs.declared.router.Router.{Router}
 use Rattle.links.specs.declared.tables.Tables.{Tables}
-use Rattle.mail.specs.Posting.{told_all, told_by, whom}
+use Rattle.mail.specs.Posting.{told_by, whom}
 use Rattle.mail.specs.Posts.{mail, mailing, posts}
 use Rattle.mail.specs.Whole.{Stepped, ground, ground_of, local, number_of}
 use Rattle.mail.specs.declared.letter.Letter.{Letter}
 use Rattle.mail.specs.declared.network.Network.{Network}
 use Rattle.mail.proofs.Mailed.{heard_mail, turned_mail}
+use Rattle.mail.proofs.Posted.{told_all}
 
 pub same_held : (r : Router) (t u : Tables) → Same t u → held r u ≡ held r t
 same_held r t u s = λ x. record { up = links_up r; received = λ b k. s.received b k x; advertised = λ b k. s.advertised b k x }

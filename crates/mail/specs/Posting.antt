@@ -1,10 +1,9 @@
 -- The oldest of what is in flight, and who is told of what is sent. Assumes nothing.
 use Rattle.std.specs.Prelude.{◌≡◌, ℕ, ◌<◌, Bool, true, false, List, [], map, length, take, Result, Ok, Err, slice_index_or}
-use Rattle.advertisement.specs.Audiences.{in_audience}
-use Rattle.advertisement.specs.declared.audience.Audience.{Audience}
+use Rattle.advertisement.specs.Audiences.{Audience, in_audience}
 use Rattle.advertisement.specs.declared.update.Update.TheVariants.{Announce}
 use Rattle.links.specs.declared.fault.Fault.{Fault}
-use Rattle.mail.specs.Posts.{Post, between, goes, meant, posts}
+use Rattle.mail.specs.Posts.{between, goes, meant, posts}
 use Rattle.mail.specs.declared.letter.Letter.{Letter}
 
 -- a letter that stands where there is none
@@ -29,8 +28,3 @@ whom audiences b = slice_index_or (map in_audience audiences) b (λ k. false)
 abbrev pub told_by : Result Audience Fault → ℕ → Bool
 told_by (Ok audience) k = in_audience audience k
 told_by (Err fault) k = false
-
--- what is sent after a link turned; nothing where that was refused
-abbrev pub told_all : Result (Unit {0}) Fault → List Post → List Post
-told_all (Ok _) ps = ps
-told_all (Err fault) ps = []

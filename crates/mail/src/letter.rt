@@ -4,6 +4,7 @@ ghost use Rattle.mail.specs.Posts.{goes, meant};
 
 use advertisement::Update;
 
+// Two numbers, and no struct of both: commands name the two ends one by one, and `hear` and `turn` take them so.
 #[derive(Clone, Copy)]
 pub struct Letter {
     pub from: u8,

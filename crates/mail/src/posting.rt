@@ -13,7 +13,8 @@ pub fn oldest(letters: &[Letter], from: u8, to: u8) -> Option<usize>
     letters.iter().position(|letter| letter.goes(from, to))
 }
 
-// All letters but the one at a place, if there is one.
+// All letters but the one at a place, if there is one. Tested, since `remove` asks for a place that there is, and this
+// function asks nothing.
 pub fn without(letters: &[Letter], place: usize, heap: Global) -> Result<Vec<Letter>, AllocError>
     ensures { IfOk result (λ left. left.items ≡ take place letters.now ++ drop (place + 1) letters.now) }
 {

@@ -1,6 +1,6 @@
 -- The words in which a refusal is told. Assumes nothing.
 use Rattle.std.specs.Prelude.{ℕ, List, ◌++◌, vec_items, codes, decimal}
-use Rattle.text.specs.Faults as faults
+use Rattle.text.specs.Faults.{fault_words}
 use Rattle.text.specs.Row.{spelled}
 use Rattle.refusals.specs.declared.refusal.Cause.{Cause}
 use Rattle.refusals.specs.declared.refusal.Cause.TheVariants.{UnknownKind, Cut, Surplus, NoSuchNetwork, BadCount, NotRising, SamePair, PeersTurned, Itself, TooMany}
@@ -39,11 +39,12 @@ place_words Head = codes "head"
 place_words (Tie k) = codes "tie " ++ decimal k
 place_words End = codes "end"
 
-abbrev pub fault_words : Place → Cause → List ℕ
-fault_words p c = faults.fault_words (number c) (place_words p) (cause_words c)
+-- a cycle is the villages' ring of customers
+abbrev pub ring_words : List ℕ → List ℕ
+ring_words ring = codes "a ring of customers: " ++ spelled ring
 
--- the number, the place and the cause; a cycle is the villages' ring of customers
+-- the number, the place and the cause
 abbrev pub words : Refusal → List ℕ
-words (Fault p c) = fault_words p c
-words (Cycle ring) = codes "fault 5 at end: a ring of customers: " ++ spelled (vec_items ring)
+words (Fault f) = fault_words (number f.cause) (place_words f.place) (cause_words f.cause)
+words (Cycle ring) = fault_words 5 (place_words End) (ring_words (vec_items ring))
 words Memory = codes "out of memory"

@@ -5,3 +5,4 @@ mod refusal;
 mod wording;
 
 pub use refusal::{Cause, Place, Refusal};
+pub use text::Fault;

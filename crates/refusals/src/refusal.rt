@@ -5,6 +5,7 @@ ghost use Rattle.refusals.specs.declared.refusal.Refusal.TheVariants.{Memory};
 
 use cycles::Unsound;
 use std::alloc::AllocError;
+use text::Fault;
 
 // What is wrong with one thing of the file.
 #[derive(Clone, Copy, Debug, PartialEq, Eq)]
@@ -42,7 +43,7 @@ pub enum Place {
 #[derive(Debug, Drop)]
 pub enum Refusal {
     // the first thing with a fault, and the cause that has the lowest number
-    Fault { place: Place, cause: Cause },
+    Fault(Fault<Place, Cause>),
     // the cycle of customers that is told; the villages call it a ring
     Cycle(Vec<u8>),
     // memory could not be had; the file may be sound

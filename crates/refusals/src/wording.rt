@@ -1,6 +1,6 @@
 // A refusal in words.
 ghost use Rattle.std.specs.Prelude.{Some};
-ghost use Rattle.refusals.specs.Words.{cause_words, number, place_words, words};
+ghost use Rattle.refusals.specs.Words.{cause_words, number, place_words, ring_words, words};
 
 use crate::refusal::{Cause, Place, Refusal};
 use std::error::Error;
@@ -51,17 +51,35 @@ impl fmt::Display for Place {
     }
 }
 
+// The cycle of customers that is told, as the cause of a fault at the end.
+#[derive(Clone, Copy)]
+struct Ring<'a>(&'a [u8]);
+
+impl Numbered for Ring<'_> {
+    ghost number_of = { λ _. 5 };
+
+    fn number(&self) -> u8 {
+        5
+    }
+}
+
+impl fmt::Display for Ring<'_> {
+    ghost output = { λ ring. Some (ring_words ring.0.now) };
+
+    fn fmt<W: fmt::Write>(&self, f: &mut fmt::Formatter<W>) -> fmt::Result {
+        write!(f, "a ring of customers: {}", Row(self.0))
+    }
+}
+
 impl fmt::Display for Refusal {
     ghost output = { λ refusal. Some (words refusal) };
 
     fn fmt<W: fmt::Write>(&self, f: &mut fmt::Formatter<W>) -> fmt::Result {
         match self {
-            Refusal::Fault { place, cause } => {
-                let (place, cause) = (*place, *cause);
-                write!(f, "{}", Fault { place, cause })
-            }
+            Refusal::Fault(fault) => write!(f, "{fault}"),
             Refusal::Cycle(ring) => {
-                write!(f, "fault 5 at end: a ring of customers: {}", Row(ring))
+                let (place, cause) = (Place::End, Ring(ring));
+                write!(f, "{}", Fault { place, cause })
             }
             Refusal::Memory => f.write_str("out of memory"),
         }

@@ -13,10 +13,9 @@ fn tell(rt: &HostRuntime, words: &[String]) -> io::Result<()> {
         return rt.println(USAGE);
     };
     println!(rt; "{ties} {script} {home}")?;
-    match perform(rt, ties.as_str(), script.as_str(), &words[2..]) {
-        Ok(()) => Ok(()),
-        Err(failure) => println!(rt; "{failure}"),
-    }
+    perform(rt, ties.as_str(), script.as_str(), &words[2..]).or_else(|failure| println!(rt;
+        "{failure}"
+    ))
 }
 
 fn run(rt: &HostRuntime) -> Result<(), Failure> {
@@ -26,7 +25,7 @@ fn run(rt: &HostRuntime) -> Result<(), Failure> {
     Ok(())
 }
 
-// A status, and no error: what it would tell cannot be written where its lines cannot be.
+// A status, and no error: the runtime would print an error, and of these nothing is printed.
 fn main(rt: HostRuntime) -> ExitCode {
     match run(&rt) {
         Ok(()) => ExitCode::SUCCESS,

@@ -5,7 +5,7 @@ use Rattle.std.proofs.lemmas.List.{get_or-set_same, get_or-set_other, get_or-rep
 use Rattle.std.proofs.lemmas.Bool.{cases_eq, cases_lt, cond-true, cond-false, eq-eqb, ne_eqb}
 use Rattle.std.proofs.lemmas.Bool.Decides.{nat_tests}
 use Rattle.relations.specs.Between.{Between, Mutual, Apart, Wide, Within, between, opposite, with_pair}
-use Rattle.relations.specs.Table.{rel}
+use Rattle.relations.specs.Table.{count, rel}
 use Rattle.relations.specs.declared.matrix.Matrix.{Matrix}
 use Rattle.relations.specs.declared.relation.Relation.{Relation}
 use Rattle.relations.specs.declared.relation.Relation.TheVariants.{Unrelated, Customer, Peer, Provider}
@@ -47,9 +47,6 @@ pair_mutual rel a b x ne m i j = let o = opposite_opposite x in let e = m i j in
 pub pair_apart : (rel : Between) (a b : ℕ) (x : Relation) → (a ≡ b → ⊥) → Apart rel → Apart (with_pair rel a b x)
 pair_apart rel a b x ne m i = let e = m i in grind (arith, nat_tests)
 
-pub pair_within : (n : ℕ) (rel : Between) (a b : ℕ) (x : Relation) → a < n → b < n → Within n rel → Within n (with_pair rel a b x)
-pair_within n rel a b x ha hb m i j h = let e = m i j h in grind (arith, nat_tests)
-
 wide_set : (rows : List (List Relation)) (i : ℕ) (row : List Relation) → length row ≡ 64 → i < length rows → Wide rows → Wide (set rows i row)
 wide_set rows i row long hi wide k h =
     let e = get_or_set rows i k row [] hi in
@@ -58,11 +55,15 @@ wide_set rows i row long hi wide k h =
     grind (arith, nat_tests, e, f, long)
 
 -- a table with no relation in it keeps the promises of its type
-pub none_hold : (rows : List (List Relation)) (n : ℕ) → rows ≡ replicate 64 (replicate 64 Unrelated) → Wide rows × Mutual (between rows) × Apart (between rows) × Within n (between rows)
+pub none_hold : (rows : List (List Relation)) (n : ℕ) → rows ≡ replicate n (replicate 64 Unrelated) → Wide rows × Mutual (between rows) × Apart (between rows)
 none_hold rows n e =
-    let at : (i j : ℕ) → between rows i j ≡ Unrelated = λ i j. ap (λ l. between l i j) e ∙ between_none 64 64 i j in
-    let wide : Wide rows = λ i h. ap (λ l. length (get_or l i [])) e ∙ ap length (get_or-replicate 64 i (replicate 64 Unrelated) [] (let l : length (replicate 64 (replicate 64 Unrelated)) ≡ 64 = simp length-replicate in let m : length rows ≡ 64 = ap length e ∙ l in omega arith)) ∙ simp length-replicate in
-    (wide, λ i j. at j i ∙ ap opposite (sym (at i j)), λ i. at i i, λ i j h. at i j)
+    let at : (i j : ℕ) → between rows i j ≡ Unrelated = λ i j. ap (λ l. between l i j) e ∙ between_none n 64 i j in
+    let wide : Wide rows = λ i h. ap (λ l. length (get_or l i [])) e ∙ ap length (get_or-replicate n i (replicate 64 Unrelated) [] (let l : length (replicate n (replicate 64 Unrelated)) ≡ n = simp length-replicate in let m : length rows ≡ n = ap length e ∙ l in omega arith)) ∙ simp length-replicate in
+    (wide, λ i j. at j i ∙ ap opposite (sym (at i j)), λ i. at i i)
+
+-- only networks that have a row are related
+pub within : (m : Matrix) → Within (count m) (rel m)
+within m i j h = ap (λ row. get_or row j Unrelated) (get_or_past m.rows.items i [] (let l = m.rows.ok.0 in omega arith))
 
 -- a table after the two ends of a pair were written: it is as `with_pair` says, and keeps the promises of its type
 pub record Paired (m : Matrix) (a b : ℕ) (x : Relation) (new : List (List Relation)) : Type 0 where
@@ -70,17 +71,16 @@ pub record Paired (m : Matrix) (a b : ℕ) (x : Relation) (new : List (List Rela
   pub wide : Wide new
   pub «mutual» : Mutual (between new)
   pub apart : Apart (between new)
-  pub within : Within m.networks (between new)
 
-pub pair_hold : (m : Matrix) (a b : ℕ) (x y : Relation) (u v : List Relation) → a < m.networks → b < m.networks → (a ≡ b → ⊥) → y ≡ opposite x → u ≡ get_or m.rows.items a u → v ≡ get_or (set m.rows.items a (set u b x)) b v → Paired m a b x (set (set m.rows.items a (set u b x)) b (set v a y))
+pub pair_hold : (m : Matrix) (a b : ℕ) (x y : Relation) (u v : List Relation) → a < count m → b < count m → (a ≡ b → ⊥) → y ≡ opposite x → u ≡ get_or m.rows.items a u → v ≡ get_or (set m.rows.items a (set u b x)) b v → Paired m a b x (set (set m.rows.items a (set u b x)) b (set v a y))
 pair_hold m a b x y u v ha hb ne is hu hv =
     let rows = m.rows.items in
     let few = m.few in
     let wide = m.wide in
-    let long : length rows ≡ 64 = sym m.rows.ok.0 ∙ m.long in
+    let long : length rows ≡ count m = sym m.rows.ok.0 in
     let la : length u ≡ 64 = ap length (hu ∙ get_or_default rows a u [] (omega arith)) ∙ wide a (omega arith) in
     let la' : length (set u b x) ≡ 64 = (simp length-set) ∙ la in
-    let l1 : length (set rows a (set u b x)) ≡ 64 = (simp length-set) ∙ long in
+    let l1 : length (set rows a (set u b x)) ≡ count m = (simp length-set) ∙ long in
     let w1 : Wide (set rows a (set u b x)) = wide_set rows a (set u b x) la' (omega arith) wide in
     let lb : length v ≡ 64 = ap length (hv ∙ get_or_default (set rows a (set u b x)) b v [] (omega arith)) ∙ w1 b (omega arith) in
     let lb' : length (set v a y) ≡ 64 = (simp length-set) ∙ lb in
@@ -94,5 +94,4 @@ pair_hold m a b x y u v ha hb ne is hu hv =
       wide = w2;
       «mutual» = λ i j. at j i ∙ pair_mutual (rel m) a b x ne m.«mutual» i j ∙ ap opposite (sym (at i j));
       apart = λ i. at i i ∙ pair_apart (rel m) a b x ne m.apart i;
-      within = λ i j h. at i j ∙ pair_within m.networks (rel m) a b x ha hb m.within i j h;
     }

@@ -1,11 +1,11 @@
 -- What a table of relations holds. Assumes nothing.
-use Rattle.std.specs.Prelude.{ℕ, vec_items}
+use Rattle.std.specs.Prelude.{ℕ, vec_items, vec_len}
 use Rattle.relations.specs.Between.{Between, between}
 use Rattle.relations.specs.declared.matrix.Matrix.{Matrix}
 
 -- how many networks there are
 abbrev pub count : Matrix → ℕ
-count m = m.networks
+count m = vec_len m.rows
 
 -- what network j is to network i
 abbrev pub rel : Matrix → Between

@@ -12,9 +12,10 @@ pub enum Relation {
     Provider,
 }
 
-// The most networks that there may be.
+// The most networks that there may be. Arrays write 64, as the contracts do.
 pub const MOST: u8 = 64;
 
+// What `MOST` is, as a contract says it: a constant has none. No crate calls it.
 pub fn most_networks() -> u8
     ensures { result ≡ 64 }
 {

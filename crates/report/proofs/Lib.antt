@@ -1,3 +1,4 @@
 mod Lines
+mod Numbered
 mod Places
 mod Telling

@@ -40,7 +40,7 @@ homes_said n ws = homes_from n 0 (map string_bytes ws)
 
 -- what is told is the first fault; want of memory tells nothing of the words
 abbrev pub Refused : Result (List ℕ) (ℕ × HomeCause) → HomeRefusal → Type 0
-Refused said (Fault place cause) = said ≡ Err (place, cause)
+Refused said (Fault fault) = said ≡ Err (fault.place.0, fault.cause)
 Refused said Memory = Unit {0}
 
 abbrev pub number : HomeCause → ℕ
@@ -56,5 +56,5 @@ home_words place = codes "home " ++ decimal place
 
 -- the number of the fault, the place and the cause
 abbrev pub refusal_words : HomeRefusal → List ℕ
-refusal_words (Fault place cause) = fault_words (number cause) (home_words place) (cause_words cause)
+refusal_words (Fault fault) = fault_words (number fault.cause) (home_words fault.place.0) (cause_words fault.cause)
 refusal_words Memory = codes "out of memory"

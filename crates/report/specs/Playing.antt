@@ -8,8 +8,8 @@ use Rattle.script.specs.declared.command.Command.TheVariants.{Turn, Hear, Show, 
 use Rattle.simulation.specs.Resting.{Hearings, Still}
 use Rattle.simulation.specs.Simulated.{state_of, world_of}
 use Rattle.simulation.specs.Steps.{Hears, NotHeard, NotTurned, Turns}
-use Rattle.simulation.specs.declared.cause.Cause.{Cause}
-use Rattle.simulation.specs.declared.cause.Cause.TheVariants.{Memory}
+use Rattle.simulation.specs.declared.cause.Refusal.{Refusal}
+use Rattle.simulation.specs.declared.cause.Refusal.TheVariants.{Memory}
 use Rattle.simulation.specs.declared.simulation.Simulation.{Simulation}
 
 -- everything in flight was heard, the lowest pair first, and the stable routing stands
@@ -27,8 +27,8 @@ Done w (Show b) s t = t ≡ s
 Done w Rest s t = Rested w s t
 
 -- a step that is not played changes nothing; where memory ends, a rest has heard some
-abbrev pub NotDone : Command → Simulation → Simulation → Cause → Type 0
-NotDone (Turn i j up) x y cause = NotTurned (world_of x) i j up (state_of x) cause × (y ≡ x)
-NotDone (Hear i j) x y cause = NotHeard (world_of x) i j (state_of x) cause × (y ≡ x)
-NotDone (Show b) x y cause = ⊥
-NotDone Rest x y cause = (cause ≡ Memory) × Hearings (world_of x) (state_of x) (state_of y)
+abbrev pub NotDone : Command → Simulation → Simulation → Refusal → Type 0
+NotDone (Turn i j up) x y refusal = NotTurned (world_of x) i j up (state_of x) refusal × (y ≡ x)
+NotDone (Hear i j) x y refusal = NotHeard (world_of x) i j (state_of x) refusal × (y ≡ x)
+NotDone (Show b) x y refusal = ⊥
+NotDone Rest x y refusal = (refusal ≡ Memory) × Hearings (world_of x) (state_of x) (state_of y)

@@ -7,6 +7,7 @@ ghost use Rattle.report.specs.declared.homes.HomeRefusal.TheVariants.{Memory};
 use script::read_network;
 use simulation::MOST_BLOCKS;
 use std::alloc::{AllocError, Global};
+use text::Fault;
 
 mod wording;
 
@@ -19,10 +20,14 @@ pub enum HomeCause {
     TooMany,
 }
 
+// The place of a home among the words, counted from 0.
+#[derive(Clone, Copy, Debug)]
+pub struct Home(pub usize);
+
 #[derive(Debug, Drop)]
 pub enum HomeRefusal {
-    // the first word with a fault, counted from 0
-    Fault { place: usize, cause: HomeCause },
+    // the first word with a fault
+    Fault(Fault<Home, HomeCause>),
     // memory could not be had; the words may be right
     Memory,
 }
@@ -59,11 +64,13 @@ fn read_home(word: &[u8], place: usize, networks: u8) -> Result<u8, HomeCause>
 pub fn read_homes(words: &[String], networks: u8, heap: Global) -> Result<Vec<u8>, HomeRefusal>
     ensures { MatchResult result (λ homes. homes_said networks words.now ≡ Ok homes.items) (Refused (homes_said networks words.now)) }
 {
-    let mut homes = Vec::new(heap);
-    for (place, word) in words.iter().enumerate() {
-        let fault = |cause| HomeRefusal::Fault { place, cause };
-        let home = read_home(word.as_bytes(), place, networks).map_err(fault)?;
-        homes.push(home).map_err(AllocError::from)?;
-    }
-    Ok(homes)
+    words
+        .iter()
+        .enumerate()
+        .map(|(number, word)| {
+            let place = Home(number);
+            let fault = |cause| HomeRefusal::Fault(Fault { place, cause });
+            read_home(word.as_bytes(), number, networks).map_err(fault)
+        })
+        .try_collect(heap)
 }

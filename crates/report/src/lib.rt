@@ -7,7 +7,7 @@ mod playing;
 mod routes;
 mod steps;
 
-pub use homes::{HomeCause, HomeRefusal, read_homes};
+pub use homes::{Home, HomeCause, HomeRefusal, read_homes};
 pub use laws::lines_tell_routes;
 pub use playing::play;
 pub use routes::{RouteLine, Shown};

@@ -1,10 +1,11 @@
 // A router fed by hand: network 1 of four, with customer 0, peer 2 and provider 3; block 0 is at home at 0, block 1 at 3.
 use advertisement::{Announcement, Audience, Update};
 use cycles::sound;
-use links::{Fault, Router, Tables};
+use links::{Fault, Router, Tables, Unmade};
 use relations::{Matrix, Relation, Relations};
 use std::test::Fail;
 
+// By hand, as in `trials`, which is tests alone and lends nothing.
 fn ties(rt: HostRuntime) -> Result<Relations, Fail> {
     let mut matrix = Matrix::new(rt.alloc(), 4)?;
     matrix.relate(1, 0, Relation::Customer);
@@ -14,7 +15,21 @@ fn ties(rt: HostRuntime) -> Result<Relations, Fail> {
 }
 
 fn blocks(rt: HostRuntime) -> Result<Tables, Fail> {
-    Ok(Tables::new(rt.alloc(), &[0, 3])?.ok_or("too many blocks")?)
+    Ok(Tables::new(rt.alloc(), &[0, 3])?)
+}
+
+#[test]
+fn tables_made_and_copied(rt: HostRuntime) -> Result<(), Fail> {
+    let copy = blocks(rt)?.clone()?;
+    assert_eq!(rt;
+        (copy.home(0), copy.home(1), copy.home(2)),
+        (Some(0), Some(3), None)
+    );
+    let unmade = Tables::new(rt.alloc(), &[0; 257]).err().ok_or("made")?;
+    assert_eq!(rt; unmade, Unmade::TooLarge);
+    let text = unmade.to_string(rt.alloc())?;
+    assert!(rt; text.as_str() == "more networks or blocks than there may be");
+    Ok(())
 }
 
 // With the links to 0, 2 and 3 up.

@@ -61,7 +61,7 @@ unfolding ahead_in
 ahead_more limits k [] h = absurd (omega arith)
 ahead_more limits k (b ∷ bs) h = ap (ahead_in limits k) (first_line b bs)
 
-pub ahead_none : (limits : Limits) (k : ℕ) (bs : List ℕ) → length bs ≡ 0 → ahead limits k bs ≡ record { answer = Ok None; line = k; left = [] }
+pub ahead_none : (limits : Limits) (k : ℕ) (bs : List ℕ) → length bs ≡ 0 → ahead limits k bs ≡ record { answer = Ok None; line = k; left = bs }
 unfolding ahead_in lines
 ahead_none limits k [] h = refl
 ahead_none limits k (b ∷ bs) h = absurd (omega arith)

@@ -24,7 +24,7 @@ impl Numbered for Cause {
 }
 
 impl Cause {
-    // The cause in words.
+    // The cause in words. It stays beside `Display`, which prints it, since it can't fail.
     pub fn text(self) -> &'static str
         ensures { result.now ≡ cause_words self }
     {

@@ -1,12 +1,11 @@
 -- Where a table has no row, nothing is told. Assumes nothing.
-use Rattle.std.proofs.Common.{◌≡◌, ℕ, ◌≤◌, false, ◌&&◌, List, [], length, get_or, nat_lt, None, option_and_then, ap, ◌∙◌, ⊎_elim, arith}
+use Rattle.std.proofs.Common.{◌≡◌, ℕ, false, ◌&&◌, List, [], length, get_or, nat_lt, None, option_and_then, ap, ◌∙◌, ⊎_elim, arith}
 use Rattle.std.specs.List.{slice_get}
-use Rattle.std.proofs.lemmas.Bool.{cases_lt, le-ltb, and_left}
+use Rattle.std.proofs.lemmas.Bool.{cases_lt}
 use Rattle.std.proofs.lemmas.Bool.Decides.{nat_tests}
 use Rattle.std.proofs.lemmas.Option.{slice_get-get_or, slice_get_past}
-use Rattle.selection.specs.Paths.{count, path_of, row, rows_of}
+use Rattle.selection.specs.Paths.{path_of, rows_of}
 use Rattle.selection.specs.Rows.{Wide}
-use Rattle.selection.specs.declared.table.PathTable.{PathTable}
 use Rattle.selection.specs.declared.table.row.Row.{Row}
 
 -- where there is no such row, nothing is told
@@ -16,10 +15,3 @@ none_there blocks wide block neighbour out =
     (λ h. let w = wide block h in ap (λ o. option_and_then path_of (option_and_then (λ rows. slice_get rows neighbour) o)) (slice_get-get_or blocks block [] h) ∙ ap (option_and_then path_of) (slice_get_past (get_or blocks block []) neighbour (grind (arith, nat_tests, w, out))))
     (λ h. ap (λ o. option_and_then path_of (option_and_then (λ rows. slice_get rows neighbour) o)) (slice_get_past blocks block h))
     (cases_lt block (length blocks))
-
--- so for a block or a neighbour that a table does not have
-pub row_absent : (t : PathTable) (b j : ℕ) → (nat_lt b (count t) && nat_lt j 64) ≡ false → row t b j ≡ None
-row_absent t b j out = none_there t.blocks.items t.wide b j (let n = t.blocks.ok.0 in grind (arith, nat_tests, n, out))
-
-pub row_past : (t : PathTable) (b j : ℕ) → count t ≤ b → row t b j ≡ None
-row_past t b j h = row_absent t b j (and_left (nat_lt b (count t)) (nat_lt j 64) (le-ltb b (count t) h))

@@ -1,5 +1,5 @@
 -- What holds of every selection. Assumes nothing.
-use Rattle.std.specs.Prelude.{◌≡◌, ℕ, ◌<◌, ◌≤◌, Bool, true, false, ◌⊎◌, List, get_or, Some, None, vec_items, Option, ◌≢◌, slice_index_or}
+use Rattle.std.specs.Prelude.{◌≡◌, ℕ, ◌<◌, ◌≤◌, Bool, true, false, ◌⊎◌, List, Some, None, vec_items, Option, ◌≢◌, slice_index_or}
 use Rattle.relations.specs.Sound.{networks, relation}
 use Rattle.relations.specs.declared.relation.Relation.{Relation}
 use Rattle.relations.specs.declared.relation.Relation.TheVariants.{Customer}
@@ -63,7 +63,7 @@ NoCustomer rel (via j p) = rel j ≡ Customer → ⊥
 
 -- what a network selects, in an order within a rank, from its tables
 abbrev pub selected : Order → Relations → List Bool → PathTable → ℕ → ℕ → ℕ → Choice
-selected within r up received me block home = choose within (relation r me) (λ j. get_or up j false) me home (λ j. row received block j) (networks r)
+selected within r up received me block home = choose within (relation r me) (λ j. slice_index_or up j false) me home (λ j. row received block j) (networks r)
 
 -- if two tables of one network agree on what its customers told, with the same links to customers up, then either it
 -- selects a customer's path from both, and the same, or from neither

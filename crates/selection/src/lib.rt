@@ -5,6 +5,7 @@ mod laws;
 mod node;
 mod route;
 mod selecting;
+mod set;
 mod table;
 
 pub use laws::{
@@ -14,4 +15,5 @@ pub use laws::{
 pub use node::Node;
 pub use route::Route;
 pub use selecting::{is_up, passes, select};
+pub use set::NetworkSet;
 pub use table::{MOST_BLOCKS, PathTable};

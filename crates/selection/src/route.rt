@@ -1,4 +1,5 @@
-// What a network goes by for a block.
+// What a network goes by for a block. An enum of its own, and no `Option` of a path: nothing, its own home and a
+// neighbour's path are three cases, a form that the project asks for (docs/DECISIONS.md).
 #[derive(Clone, Copy, Debug)]
 pub enum Route<'a> {
     // Nothing.

@@ -7,6 +7,7 @@ ghost use Rattle.selection.specs.Paths.{row};
 
 use crate::node::Node;
 use crate::route::Route;
+use crate::set::is_marked;
 use crate::table::PathTable;
 use relations::Relation;
 
@@ -29,11 +30,11 @@ pub fn passes(path: &[u8], me: u8) -> bool
     path.contains(&me)
 }
 
-// Whether the link to the neighbour is up.
+// Whether the link to the neighbour is up: `is_marked`, by the name that other crates call.
 pub fn is_up(up: &[bool], neighbour: u8) -> bool
     ensures { result ≡ slice_index_or up.now neighbour false }
 {
-    up.get(neighbour as usize).copied().unwrap_or(false)
+    is_marked(up, neighbour)
 }
 
 // The path by `neighbour` that the network may go by, if any.

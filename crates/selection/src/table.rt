@@ -10,6 +10,8 @@ pub use methods::MOST_BLOCKS;
 
 // For each block a row for each of the 64 neighbours that there may be. That the number of blocks stays, and that nothing
 // changes where false is answered, are clauses of each step, since an invariant speaks of one moment.
+// Each method names a row by two numbers, the block and the neighbour: a struct of them would be made at each call only to
+// be taken apart again. That there is such a row is said in each clause: it is of the arguments, which no invariant can hold.
 #[derive(Drop)]
 pub struct PathTable {
     blocks: Vec<[Row; 64]>,

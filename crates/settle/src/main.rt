@@ -7,7 +7,7 @@ use std::error::Error;
 use std::io::Read;
 use std::process::ExitCode;
 use std::{env, fmt, fs, io};
-use ties::Refusal;
+use ties::{Refusal, Summary};
 
 const USAGE: &str = "usage: settle TIES   (--help says more)";
 
@@ -28,8 +28,9 @@ A fault has a number and a place, the head, tie K from 0 or the end:
    5  a ring of customers
 ";
 
-// What ends the program with status 1, and the line that tells it: of a read or a write that fails another line than in
-// the programs that play scripts, so that it shares neither this nor `load` with them.
+// What ends the program with status 1, and the line that tells it: of standard input, or of a write, that fails
+// another line than in the programs that play scripts, so that it shares neither this nor `load` with them. By hand, and not
+// by `thiserror`, which would be one crate more for six lines.
 #[derive(Debug, Drop)]
 enum Failure {
     // how the program is to be called
@@ -65,8 +66,7 @@ impl From<AllocError> for Failure {
     }
 }
 
-// The bytes of a file, or of standard input where the path is `-`. A match, and no `map_err`, since copying the path may
-// want memory.
+// The bytes of a file, or of standard input where the path is `-`.
 fn load(rt: &HostRuntime, path: &str) -> Result<Vec<u8>, Failure> {
     let heap = rt.alloc();
     if path == "-" {
@@ -74,25 +74,21 @@ fn load(rt: &HostRuntime, path: &str) -> Result<Vec<u8>, Failure> {
         rt.stdin().read_to_end(&mut bytes)?;
         return Ok(bytes);
     }
-    match fs::read(rt, path) {
-        Ok(bytes) => Ok(bytes),
-        Err(error) => {
-            let path = String::from_str(heap, path)?;
-            Err(Failure::Unreadable { path, error })
-        }
-    }
+    fs::read(rt, path).try_map_err(|error| {
+        let path = String::from_str(heap, path)?;
+        Ok(Failure::Unreadable { path, error })
+    })
 }
 
 fn check(rt: &HostRuntime, path: &str) -> Result<(), Failure> {
     let bytes = load(rt, path)?;
     let relations = ties::read(bytes.as_slice(), MOST, rt.alloc()).map_err(Failure::Ties)?;
-    rt.println(ties::summary(&relations, rt.alloc())?)?;
+    rt.println(Summary(&relations))?;
     Ok(())
 }
 
 fn run(rt: &HostRuntime) -> Result<(), Failure> {
-    let mut args = env::args(rt)?;
-    let _program = args.next();
+    let mut args = env::args(rt)?.skip(1);
     let path = args.next().ok_or(Failure::Usage)?;
     if args.next().is_some() {
         return Err(Failure::Usage);
@@ -104,6 +100,7 @@ fn run(rt: &HostRuntime) -> Result<(), Failure> {
     check(rt, path.as_str())
 }
 
+// As in `rehearse`: one function for both, generic over the failure and with the program's name, would be as long.
 fn main(rt: HostRuntime) -> ExitCode {
     match run(&rt) {
         Ok(()) => ExitCode::SUCCESS,

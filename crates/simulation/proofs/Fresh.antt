@@ -1,21 +1,45 @@
--- The networks at the beginning, one after the other. Assumes nothing.
-use Rattle.std.proofs.Common.{◌≡◌, ℕ, zero, suc, List, [], ◌∷◌, ◌++◌, map, length, get_or, sym, refl, ap, ◌∙◌, arith}
-use lib.ListN.{length-map}
-use Rattle.std.proofs.lemmas.List.{map_push}
+-- The networks at the beginning, each at its place. Assumes nothing.
+use Rattle.std.proofs.Common.{◌≡◌, ℕ, zero, suc, ◌<◌, List, [], ◌∷◌, map, length, get_or, vec_items, vec_len, Vec, Option, Some, None, Result, Ok, Err, sym, refl, ap, ◌∙◌, subst, arith}
 use Rattle.links.specs.Run.{begin}
 use Rattle.links.specs.Local.{silent}
-use Rattle.mail.specs.Whole.{local_at, whole}
+use Rattle.links.specs.declared.unmade.Unmade.{Unmade}
+use Rattle.mail.specs.Whole.{homes_of, local, local_at, number_of, whole}
 use Rattle.mail.specs.declared.network.Network.{Network}
-
-one_more : {X : Type 0} (xs : List X) (y : X) (d : ℕ → X) → ((i : ℕ) → get_or xs i (d i) ≡ d i) → y ≡ d (length xs) → (i : ℕ) → get_or (xs ++ y ∷ []) i (d i) ≡ d i
-one_more [] y d h e zero = e
-one_more [] y d h e (suc i) = refl
-one_more (x ∷ xs) y d h e zero = h 0
-one_more (x ∷ xs) y d h e (suc i) = let s : length (x ∷ xs) ≡ suc (length xs) = omega arith in one_more xs y (λ k. d (suc k)) (λ k. h (suc k)) (e ∙ ap d s) i
+use Rattle.std.specs.Option.{IfSome, IsSomeAnd, IsSomeRelated}
+use Rattle.std.specs.Result.{MatchResult}
+use Rattle.std.specs.declared.alloc.Global.{Global}
+use Rattle.simulation.specs.Beginning.{AllFresh, Fresh}
 
 -- each network has at its place what it should
-pub placed_more : {X : Type 0} (f : Network → X) (before after : List Network) (y : Network) (n : ℕ) (d : ℕ → X) → after ≡ before ++ y ∷ [] → length before ≡ n → f y ≡ d n → ((i : ℕ) → get_or (map f before) i (d i) ≡ d i) → (i : ℕ) → get_or (map f after) i (d i) ≡ d i
-placed_more f before after y n d pushed long e h i = ap (λ xs. get_or (map f xs) i (d i)) pushed ∙ ap (λ zs. get_or zs i (d i)) (map_push f before y) ∙ one_more (map f before) (f y) d h (e ∙ ap d (sym long ∙ sym (length-map before f))) i
+pub all_at : {X : Type 0} (f : Network → X) (xs : List Network) (d : ℕ → X) → ((k : ℕ) (x : Network) → k < length xs → f (get_or xs k x) ≡ d k) → (i : ℕ) → get_or (map f xs) i (d i) ≡ d i
+all_at f [] d h i = refl
+all_at f (x ∷ xs) d h zero = h 0 x (omega arith)
+all_at f (x ∷ xs) d h (suc i) = all_at f xs (λ k. d (suc k)) (λ k y l. h (suc k) y (omega (arith, l))) i
+
+-- the networks that were made, one of each number
+module _ (homes : List ℕ) (Why : Unmade → Type 0) (at : ℕ → Option (Result Network Unmade)) (made : (k : ℕ) → IfSome (at k) (λ y. MatchResult y (Fresh k homes) Why)) where
+  fresh_at : (k : ℕ) (x : Network) → IsSomeRelated (λ y z. Ok z ≡ y) (at k) x → Fresh k homes x
+  fresh_at k x h = by (at k) h (made k)
+    where
+      by : (o : Option (Result Network Unmade)) → IsSomeRelated (λ y z. Ok z ≡ y) o x → IfSome o (λ y. MatchResult y (Fresh k homes) Why) → Fresh k homes x
+      by None h m = absurd h
+      by (Some y) h m = subst (λ r. MatchResult r (Fresh k homes) Why) {x = y} {y = Ok x} (sym h) m
+
+  pub all_fresh : (v : Vec Network Global) (xs : List Network) (len n : ℕ) → (vec_items v ≡ xs) × (vec_len v ≡ length xs) → length xs ≡ len → len ≡ n → ((k : ℕ) (x : Network) → k < len → IsSomeRelated (λ y z. Ok z ≡ y) (at k) (get_or xs k x)) → AllFresh n homes v
+  all_fresh v xs len n held long whole each =
+      let here : (k : ℕ) (x : Network) → k < length (vec_items v) → Fresh k homes (get_or (vec_items v) k x) = λ k x l. subst (λ zs. Fresh k homes (get_or zs k x)) (sym held.0) (fresh_at k _ (each k x (omega (arith, l, long, ap length held.0)))) in (
+        held.1 ∙ long ∙ whole,
+        all_at number_of (vec_items v) (λ i. i) (λ k x l. (here k x l).0),
+        all_at homes_of (vec_items v) (λ i. homes) (λ k x l. (here k x l).1),
+        all_at local (vec_items v) (λ i. silent) (λ k x l. (here k x l).2),
+      )
+
+  pub why_at : (k : ℕ) (e : Unmade) → IsSomeAnd (at k) (λ y. Err e ≡ y) → Why e
+  why_at k e h = by (at k) h (made k)
+    where
+      by : (o : Option (Result Network Unmade)) → IsSomeAnd o (λ y. Err e ≡ y) → IfSome o (λ y. MatchResult y (Fresh k homes) Why) → Why e
+      by None h m = absurd h
+      by (Some y) h m = subst (λ r. MatchResult r (Fresh k homes) Why) {x = y} {y = Err e} (sym h) m
 
 pub begins_silent : (xs : List Network) → ((i : ℕ) → local_at xs i ≡ silent) → whole xs [] ≡ begin
 begins_silent xs h = λ x. record { locals = λ i. h i x; flight = λ i j. [] }

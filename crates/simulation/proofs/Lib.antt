@@ -1,3 +1,4 @@
+mod Counted
 mod Flights
 mod Counting
 mod Wholes

@@ -1,5 +1,5 @@
 -- A step made aside is the step of the model. Assumes nothing.
-use Rattle.std.proofs.Common.{◌≡◌, ltb, true, vec_items, ℕ, zero, suc, ◌+◌, ◌<◌, Bool, cond, eqb, List, [], ◌∷◌, ◌++◌, map, length, get_or, take, drop, set, sym, refl, ap, ◌∙◌, ⊎_elim, arith, length-set}
+use Rattle.std.proofs.Common.{◌≡◌, true, vec_items, ℕ, zero, suc, ◌+◌, ◌<◌, Bool, cond, eqb, List, [], ◌∷◌, ◌++◌, map, length, get_or, take, drop, set, sym, refl, ap, ◌∙◌, ⊎_elim, arith, length-set}
 use lib.ListN.{length-map}
 use lib.Seq.{map-set}
 use Rattle.std.proofs.lemmas.List.{drop-map, get_or-map, get_or-set_other, get_or-set_same, map-append, take-map}
@@ -173,9 +173,6 @@ module _ (m : Simulation) where
       state = λ t. record { locals = λ a. turned_locals a t; flight = λ a c. turned_flights a c t };
     }
 
--- as many updates are in flight as there are letters, so the test of the letters is that of the updates
-pub crowded : (m : Simulation) (nets : List Network) (posted given : List Letter) (t : State) (b : Bool) → inside (networks m.relations) (posts posted) ≡ true → whole nets posted ≡ t → given ≡ posted → b ≡ ltb 4096 (length given) → ltb 4096 (afloat (world_of m) t) ≡ b
-crowded m nets posted given t b within is same test =
-    let many = counted (networks m.relations) (posts posted) within in
-    let all : afloat (world_of m) t ≡ length given = sym (ap (afloat (world_of m)) is) ∙ many ∙ length-map posted meant ∙ sym (ap length same) in
-    ap (ltb 4096) all ∙ sym test
+-- as many updates are in flight as there are letters
+pub crowded : (m : Simulation) (nets : List Network) (posted given : List Letter) (t : State) → inside (networks m.relations) (posts posted) ≡ true → whole nets posted ≡ t → given ≡ posted → afloat (world_of m) t ≡ length given
+crowded m nets posted given t within is same = sym (ap (afloat (world_of m)) is) ∙ counted (networks m.relations) (posts posted) within ∙ length-map posted meant ∙ sym (ap length same)

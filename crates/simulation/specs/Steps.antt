@@ -5,8 +5,9 @@ use Rattle.links.specs.Run.{Item, State, taken, turned}
 use Rattle.links.specs.World.{World}
 use Rattle.convergence.specs.Measure.{sum}
 use Rattle.mail.specs.Whole.{nowhere}
-use Rattle.simulation.specs.declared.cause.Cause.{Cause}
-use Rattle.simulation.specs.declared.cause.Cause.TheVariants.{NoSuchNetwork, NothingInFlight, NoLink, TooMany, Memory}
+use Rattle.simulation.specs.declared.cause.Cause.TheVariants.{NoSuchNetwork, NothingInFlight, NoLink, TooMany}
+use Rattle.simulation.specs.declared.cause.Refusal.{Refusal}
+use Rattle.simulation.specs.declared.cause.Refusal.TheVariants.{Fault, Memory}
 
 -- network j hears the first of what is in flight from i
 abbrev pub first_heard : World → ℕ → ℕ → List Item → State → State
@@ -32,11 +33,11 @@ pub record Hears (w : World) (i j : ℕ) (s t : State) : Type 0 where
   pub step : t ≡ hearing w i j s
 
 -- why it did not
-abbrev pub NotHeard : World → ℕ → ℕ → State → Cause → Type 0
-NotHeard w i j s NoSuchNetwork = both w i j ≡ false
-NotHeard w i j s NothingInFlight = (both w i j ≡ true) × (s.flight i j ≡ [])
-NotHeard w i j s NoLink = ⊥
-NotHeard w i j s TooMany = (both w i j ≡ true) × (0 < length (s.flight i j)) × (4096 < afloat w (hearing w i j s))
+abbrev pub NotHeard : World → ℕ → ℕ → State → Refusal → Type 0
+NotHeard w i j s (Fault NoSuchNetwork) = both w i j ≡ false
+NotHeard w i j s (Fault NothingInFlight) = (both w i j ≡ true) × (s.flight i j ≡ [])
+NotHeard w i j s (Fault NoLink) = ⊥
+NotHeard w i j s (Fault TooMany) = (both w i j ≡ true) × (0 < length (s.flight i j)) × (4096 < afloat w (hearing w i j s))
 NotHeard w i j s Memory = Unit {0}
 
 -- the link of i and j turned
@@ -47,9 +48,9 @@ pub record Turns (w : World) (i j : ℕ) (up : Bool) (s t : State) : Type 0 wher
   pub step : t ≡ turned w i j up s
 
 -- why it did not
-abbrev pub NotTurned : World → ℕ → ℕ → Bool → State → Cause → Type 0
-NotTurned w i j up s NoSuchNetwork = both w i j ≡ false
-NotTurned w i j up s NothingInFlight = ⊥
-NotTurned w i j up s NoLink = (both w i j ≡ true) × (related (w.rel i j) ≡ false)
-NotTurned w i j up s TooMany = (both w i j ≡ true) × (related (w.rel i j) ≡ true) × (4096 < afloat w (turned w i j up s))
+abbrev pub NotTurned : World → ℕ → ℕ → Bool → State → Refusal → Type 0
+NotTurned w i j up s (Fault NoSuchNetwork) = both w i j ≡ false
+NotTurned w i j up s (Fault NothingInFlight) = ⊥
+NotTurned w i j up s (Fault NoLink) = (both w i j ≡ true) × (related (w.rel i j) ≡ false)
+NotTurned w i j up s (Fault TooMany) = (both w i j ≡ true) × (related (w.rel i j) ≡ true) × (4096 < afloat w (turned w i j up s))
 NotTurned w i j up s Memory = Unit {0}

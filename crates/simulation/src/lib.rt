@@ -5,5 +5,6 @@ mod cause;
 mod simulation;
 mod wording;
 
-pub use cause::Cause;
+pub use cause::{Cause, Refusal};
+pub use links::Unmade;
 pub use simulation::{MOST_BLOCKS, MOST_NETWORKS, Simulation};

@@ -22,6 +22,7 @@ pub use making::{MOST_BLOCKS, MOST_NETWORKS};
 #[derive(Drop)]
 pub struct Simulation {
     relations: Relations,
+    // each network's tables hold them too; they are kept here, since there may be no network to ask
     homes: Vec<u8>,
     networks: Vec<Network>,
     letters: Vec<Letter>,

@@ -1,8 +1,8 @@
 // Why a step is not played, in words.
 ghost use Rattle.std.specs.Prelude.{◌≡◌, Some};
-ghost use Rattle.simulation.specs.Shown.{cause_words, number};
+ghost use Rattle.simulation.specs.Shown.{cause_words, number, refusal_words};
 
-use crate::cause::Cause;
+use crate::cause::{Cause, Refusal};
 use std::error::Error;
 use std::fmt;
 use text::Numbered;
@@ -10,20 +10,18 @@ use text::Numbered;
 impl Numbered for Cause {
     ghost number_of = { number };
 
-    // 0 for want of memory, which is no fault
     fn number(&self) -> u8 {
         match self {
             Cause::NoSuchNetwork => 2,
             Cause::NothingInFlight => 6,
             Cause::NoLink => 10,
             Cause::TooMany => 11,
-            Cause::Memory => 0,
         }
     }
 }
 
 impl Cause {
-    // The cause in words.
+    // The cause in words. It stands beside `Display`, since it can't fail.
     pub fn text(self) -> &'static str
         ensures { result.now ≡ cause_words self }
     {
@@ -32,7 +30,6 @@ impl Cause {
             Cause::NothingInFlight => "nothing is in flight",
             Cause::NoLink => "no link between these networks",
             Cause::TooMany => "more updates in flight than there is room for",
-            Cause::Memory => "out of memory",
         }
     }
 }
@@ -46,3 +43,25 @@ impl fmt::Display for Cause {
 }
 
 impl Error for Cause {}
+
+impl Refusal {
+    // The refusal in words. It stands beside `Display`, since it can't fail.
+    pub fn text(self) -> &'static str
+        ensures { result.now ≡ refusal_words self }
+    {
+        match self {
+            Refusal::Fault(cause) => cause.text(),
+            Refusal::Memory => "out of memory",
+        }
+    }
+}
+
+impl fmt::Display for Refusal {
+    ghost output = { λ refusal. Some (refusal_words refusal) };
+
+    fn fmt<W: fmt::Write>(&self, f: &mut fmt::Formatter<W>) -> fmt::Result {
+        f.write_str(self.text())
+    }
+}
+
+impl Error for Refusal {}

@@ -1,12 +1,14 @@
 // What ends a program with status 1, and the line that tells it.
 use report::{HomeRefusal, StepFault};
 use script::Line;
-use std::alloc::{AllocError, AllocFailed, Global};
+use simulation::Unmade;
+use std::alloc::{AllocError, Global};
 use std::error::Error;
 use std::{fmt, io};
 use text::Fault;
 use ties::Refusal;
 
+// By hand, and not by `thiserror`, which would be one crate more for ten lines.
 #[derive(Debug, Drop)]
 pub enum Failure {
     // how the program is to be called
@@ -47,16 +49,16 @@ impl From<AllocError> for Failure {
     }
 }
 
-impl<T: Drop> From<AllocFailed<T>> for Failure {
-    fn from(_e: AllocFailed<T>) -> Failure {
-        Failure::Memory
+impl From<Unmade> for Failure {
+    fn from(e: Unmade) -> Failure {
+        match e {
+            Unmade::TooLarge => Failure::TooLarge,
+            Unmade::Memory => Failure::Memory,
+        }
     }
 }
 
 // What was to be read or written, and why it was not; copying what it was may want memory.
 pub fn unmoved(heap: Global, what: &str, error: io::Error) -> Failure {
-    match String::from_str(heap, what) {
-        Ok(what) => Failure::Unmoved { what, error },
-        Err(e) => Failure::from(e),
-    }
+    String::from_str(heap, what).map_or_else(Failure::from, |what| Failure::Unmoved { what, error })
 }

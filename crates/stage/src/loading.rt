@@ -6,9 +6,8 @@ use std::{env, fs};
 // The words behind the program's name.
 pub fn words(rt: &HostRuntime) -> Result<Vec<String>, Failure> {
     let heap = rt.alloc();
-    let mut args = env::args(rt).map_err(|e| unmoved(heap, "the words of the command", e))?;
-    let _program = args.next();
-    Ok(args.collect(heap)?)
+    let args = env::args(rt).map_err(|e| unmoved(heap, "the words of the command", e))?;
+    Ok(args.skip(1).collect(heap)?)
 }
 
 // The bytes of a file, or of standard input where the path is `-`.

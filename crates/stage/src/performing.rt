@@ -27,7 +27,10 @@ fn play(
     command: Command,
     line: usize,
 ) -> Result<(), Failure> {
-    report::play(simulation, command).map_err(|cause| Failure::Step(StepFault { cause, line }))?;
+    report::play(simulation, command).map_err(|refusal| Failure::Step(StepFault {
+        refusal,
+        line,
+    }))?;
     if let Command::Show { block } = command {
         rt.print(Shown { simulation, block })
             .map_err(|e| unmoved(rt.alloc(), "standard output", e))?;

@@ -7,5 +7,5 @@ use std::alloc::Global;
 pub(crate) fn set_up(ties: &[u8], words: &[String], heap: Global) -> Result<Simulation, Failure> {
     let relations = ties::read(ties, MOST_NETWORKS, heap).map_err(Failure::Ties)?;
     let homes = report::read_homes(words, relations.networks(), heap).map_err(Failure::Homes)?;
-    Simulation::new(heap, relations, homes.as_slice())?.ok_or(Failure::TooLarge)
+    Ok(Simulation::new(heap, relations, homes.as_slice())?)
 }

@@ -3,21 +3,20 @@
 
 use relations::MOST;
 use std::{env, fs};
+use ties::Summary;
 
 fn survey(rt: &HostRuntime, path: &str) -> anyhow::Result<()> {
-    let heap = rt.alloc();
     let bytes = fs::read(rt, path)?;
-    match ties::read(bytes.as_slice(), MOST, heap) {
-        Ok(relations) => rt.println(ties::summary(&relations, heap)?)?,
+    // both cases are printed, so that no error is handed on
+    match ties::read(bytes.as_slice(), MOST, rt.alloc()) {
+        Ok(relations) => rt.println(Summary(&relations))?,
         Err(refusal) => rt.println(refusal)?,
     }
     Ok(())
 }
 
 fn run(rt: &HostRuntime) -> anyhow::Result<()> {
-    let mut args = env::args(rt)?;
-    let _program = args.next();
-    for path in args {
+    for path in env::args(rt)?.skip(1) {
         print!(rt; "{path}: ")?;
         survey(rt, path.as_str())?;
     }

@@ -4,6 +4,7 @@ use Rattle.std.proofs.lemmas.Option.{none-some}
 use Rattle.relations.specs.Cycle.{Cycle as CycleOf, First}
 use Rattle.relations.specs.Sound.{networks as networks_of, relation as relation_of}
 use Rattle.relations.specs.declared.sound.Relations.{Relations}
+use Rattle.relations.proofs.Tables.{within}
 use Rattle.refusals.specs.declared.refusal.Cause.{Cause}
 use Rattle.refusals.specs.declared.refusal.Place.{Place}
 use Rattle.refusals.specs.declared.refusal.Place.TheVariants.{Head, Tie, End}
@@ -29,10 +30,10 @@ module _ (most : ℕ) (r : Relations) (some : 0 < networks_of r) (allowed : netw
   file = encoding (networks_of r) (relation_of r)
 
   clean : Faultless most file
-  clean = encoded_faultless (networks_of r) (relation_of r) r.matrix.«mutual» r.matrix.apart r.matrix.within most some r.matrix.few allowed
+  clean = encoded_faultless (networks_of r) (relation_of r) r.matrix.«mutual» r.matrix.apart (within r.matrix) most some r.matrix.few allowed
 
   says : (i j : ℕ) → after file (ties file) i j ≡ relation_of r i j
-  says = encoded_says (networks_of r) (relation_of r) r.matrix.«mutual» r.matrix.apart r.matrix.within
+  says = encoded_says (networks_of r) (relation_of r) r.matrix.«mutual» r.matrix.apart (within r.matrix)
 
   no_cycle : (ring : List ℕ) → First (after file (ties file)) ring → ⊥
   no_cycle ring f =
@@ -40,6 +41,6 @@ module _ (most : ℕ) (r : Relations) (some : 0 < networks_of r) (allowed : netw
 
 pub reads_back : ReadsBack
 reads_back most r (Ok s) some allowed read = (read.count, λ i j. read.says i j ∙ says most r some allowed i j)
-reads_back most r (Err (Fault p c)) some allowed read = absurd (no_fault most _ p c (clean most r some allowed) read)
+reads_back most r (Err (Fault f)) some allowed read = absurd (no_fault most _ f.place f.cause (clean most r some allowed) read)
 reads_back most r (Err (Cycle ring)) some allowed read = absurd (no_cycle most r some allowed (vec_items ring) read.1)
 reads_back most r (Err Memory) some allowed read = refl

@@ -17,7 +17,8 @@ use Rattle.ties.specs.File.{networks, first, second, kind, meant, after}
 use Rattle.ties.specs.Faults.{causes, told, rises, tie_at_has, tie_has, same_pair, paired, comes_after, CleanTies}
 use Rattle.ties.specs.Steps.{ordered, tie_told}
 
--- where nothing is told, a thing has no fault
+-- where nothing is told, a thing has no fault; by cases, since one lemma for all lists of causes would be handed each cause's
+-- place in its list
 pub none_has : (has : Cause → Bool) → told has ≡ None → (c : Cause) → has c ≡ false
 none_has has e UnknownKind = (none_of has causes e).0
 none_has has e Cut = (none_of has causes e).1.0

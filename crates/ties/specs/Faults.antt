@@ -1,6 +1,6 @@
 -- Which faults a thing of a ties file has, and which of them is told. Assumes nothing.
 use Rattle.std.specs.Prelude.{◌≡◌, ℕ, zero, suc, ◌+◌, ◌*◌, ◌<◌, Bool, true, false, not, ◌&&◌, ◌||◌, List, [], ◌∷◌, length, Some, None, Option, ◌==◌, nat_le, nat_lt, slice_index}
-use Rattle.relations.specs.Lists.{first_of}
+use Rattle.std.specs.List.{find}
 use Rattle.refusals.specs.declared.refusal.Cause.{Cause}
 use Rattle.refusals.specs.declared.refusal.Cause.TheVariants.{UnknownKind, Cut, Surplus, NoSuchNetwork, BadCount, NotRising, SamePair, PeersTurned, Itself, TooMany}
 use Rattle.refusals.specs.declared.refusal.Place.{Place}
@@ -13,7 +13,7 @@ causes = UnknownKind ∷ Cut ∷ Surplus ∷ NoSuchNetwork ∷ BadCount ∷ NotR
 
 -- the first of the causes that a thing has
 abbrev pub told : (Cause → Bool) → Option Cause
-told has = first_of has causes
+told has = find has causes
 
 -- the second pair comes after the first
 abbrev pub rises : ℕ → ℕ → ℕ → ℕ → Bool

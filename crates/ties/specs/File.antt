@@ -1,9 +1,8 @@
 -- The things that stand in a ties file: its head and its ties, by their places in the bytes. Assumes nothing.
-use Rattle.std.specs.Prelude.{ℕ, zero, suc, ◌+◌, ◌*◌, cond, List, ◌==◌, slice_index}
+use Rattle.std.specs.Prelude.{ℕ, zero, suc, ◌+◌, ◌*◌, List, slice_index}
 use Rattle.wire.specs.Reading.{word16}
 use Rattle.relations.specs.Between.{Between, unrelated, with_pair}
-use Rattle.relations.specs.declared.relation.Relation.{Relation}
-use Rattle.relations.specs.declared.relation.Relation.TheVariants.{Peer, Provider}
+pub use Rattle.listing.specs.Kind.{meant}
 
 -- the head: 16, how many networks, how many ties
 abbrev pub networks : List ℕ → ℕ
@@ -22,11 +21,7 @@ second bs k = slice_index bs (4 + 3 * k + 1)
 abbrev pub kind : List ℕ → ℕ → ℕ
 kind bs k = slice_index bs (4 + 3 * k + 2)
 
--- what the second network is to the first
-abbrev pub meant : ℕ → Relation
-meant kind = cond (kind == 1) Provider Peer
-
--- the relations by the first k ties
+-- the relations by the first k ties: of each, what the second network is meant to be to the first
 unfoldable pub after : List ℕ → ℕ → Between
 after bs zero = unrelated
 after bs (suc k) = with_pair (after bs k) (first bs k) (second bs k) (meant (kind bs k))

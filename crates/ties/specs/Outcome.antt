@@ -20,7 +20,7 @@ AtPlace bs (Tie k) c = TieFault bs k c
 AtPlace bs End c = ⊥
 
 abbrev pub AtTie : List ℕ → Refusal → Type 0
-AtTie bs (Fault p c) = AtPlace bs p c
+AtTie bs (Fault f) = AtPlace bs f.place f.cause
 AtTie bs (Cycle ring) = ⊥
 AtTie bs Memory = Unit {0}
 
@@ -31,7 +31,7 @@ TiesRead bs (Err r) = AtTie bs r
 
 -- the refusal: the first thing with a fault, or the cycle that is told of a file with no other fault
 abbrev pub Refused : ℕ → List ℕ → Refusal → Type 0
-Refused most bs (Fault p c) = FirstFault most bs p c
+Refused most bs (Fault f) = FirstFault most bs f.place f.cause
 Refused most bs (Cycle ring) = Faultless most bs × First (after bs (ties bs)) (vec_items ring)
 Refused most bs Memory = Unit {0}
 

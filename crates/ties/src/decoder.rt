@@ -6,7 +6,7 @@ ghost use Rattle.ties.specs.Outcome.{Read, TableRead, TiesRead};
 
 use crate::tie::{Head, Tie};
 use cycles::sound;
-use refusals::{Cause, Place, Refusal};
+use refusals::{Cause, Fault, Place, Refusal};
 use relations::{Matrix, Relations};
 use std::alloc::Global;
 use wire::Reader;
@@ -24,10 +24,10 @@ fn read_ties(reader: &mut Reader, head: Head, heap: Global) -> Result<Matrix, Re
     let mut matrix = Matrix::new(heap, head.networks)?;
     let mut last: Option<Tie> = None;
     for k in 0..head.ties {
-        let tie = Tie::read(reader, &matrix, last).map_err(|cause| Refusal::Fault {
+        let tie = Tie::read(reader, &matrix, last).map_err(|cause| Refusal::Fault(Fault {
             place: Place::Tie(k),
             cause,
-        })?;
+        }))?;
         matrix.relate(tie.first, tie.second, tie.relation);
         last = Some(tie);
     }
@@ -39,16 +39,16 @@ fn read_table(bytes: &[u8], most: u8, heap: Global) -> Result<Matrix, Refusal>
     ensures { TableRead most bytes.now result }
 {
     let mut reader = Reader::new(bytes);
-    let head = Head::read(&mut reader, most).map_err(|cause| Refusal::Fault {
+    let head = Head::read(&mut reader, most).map_err(|cause| Refusal::Fault(Fault {
         place: Place::Head,
         cause,
-    })?;
+    }))?;
     let matrix = read_ties(&mut reader, head, heap)?;
     if !reader.at_end() {
-        return Err(Refusal::Fault {
+        return Err(Refusal::Fault(Fault {
             place: Place::End,
             cause: Cause::Surplus,
-        });
+        }));
     }
     Ok(matrix)
 }

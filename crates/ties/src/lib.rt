@@ -10,5 +10,5 @@ pub use laws::{
     encoded_is_faultless, faultless_is_encoded, what_is_encoded_reads_back,
     what_is_read_encodes_back,
 };
-pub use listing::{count_ties, encode, summary};
-pub use refusals::{Cause, Place, Refusal};
+pub use listing::{Summary, count_ties, encode};
+pub use refusals::{Cause, Fault, Place, Refusal};

@@ -1,18 +1,19 @@
 // What a network goes by, of what its neighbours told.
-use cycles::sound;
-use relations::{Matrix, Relation, Relations};
+use crate::making::sound_relations;
+use relations::{Relation, Relations};
 use selection::{Node, PathTable, Route, select};
 use std::alloc::AllocError;
 use std::test::Fail;
 
 // Network 4 of six, with customers 0 and 1, peer 2 and provider 3; the home is 5.
 fn sixth(rt: HostRuntime) -> Result<Relations, Fail> {
-    let mut matrix = Matrix::new(rt.alloc(), 6)?;
-    matrix.relate(4, 0, Relation::Customer);
-    matrix.relate(4, 1, Relation::Customer);
-    matrix.relate(4, 2, Relation::Peer);
-    matrix.relate(4, 3, Relation::Provider);
-    Ok(sound(matrix, rt.alloc())?)
+    let ties = [
+        (4, 0, Relation::Customer),
+        (4, 1, Relation::Customer),
+        (4, 2, Relation::Peer),
+        (4, 3, Relation::Provider),
+    ];
+    sound_relations(rt, 6, &ties)
 }
 
 // The paths that neighbours told: each begins with the neighbour.

@@ -2,12 +2,12 @@
 use relations::MOST;
 use std::test::Fail;
 use text::Numbered;
-use ties::{Cause, Place, Refusal};
+use ties::{Place, Refusal, Summary};
 
 // What is told of a file that is refused for one of its things.
 fn fault(rt: HostRuntime, bytes: &[u8], most: u8) -> Result<(u8, Place), Fail> {
     match ties::read(bytes, most, rt.alloc()) {
-        Err(Refusal::Fault { place, cause }) => Ok((cause.number(), place)),
+        Err(Refusal::Fault(fault)) => Ok((fault.cause.number(), fault.place)),
         _ => Err(Fail::new("not refused for a thing of it")),
     }
 }
@@ -55,6 +55,15 @@ fn written_and_read_again(rt: HostRuntime) -> Result<(), Fail> {
     let relations = ties::read(&file, MOST, rt.alloc())?;
     let bytes = ties::encode(&relations, rt.alloc())?;
     assert!(rt; bytes.as_slice() == file.as_slice());
+    Ok(())
+}
+
+#[test]
+fn sound_relations_are_told(rt: HostRuntime) -> Result<(), Fail> {
+    let file = [16, 4, 0, 5, 0, 1, 1, 0, 2, 1, 1, 2, 2, 3, 1, 1, 3, 2, 1];
+    let relations = ties::read(&file, MOST, rt.alloc())?;
+    let line = Summary(&relations).to_string(rt.alloc())?;
+    assert!(rt; line.as_str() == "4 networks, 5 ties, sound");
     Ok(())
 }
 

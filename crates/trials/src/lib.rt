@@ -6,6 +6,8 @@ mod choosing;
 #[cfg(test)]
 mod files;
 #[cfg(test)]
+mod making;
+#[cfg(test)]
 mod rings;
 #[cfg(test)]
 mod tables;

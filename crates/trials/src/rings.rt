@@ -1,20 +1,21 @@
 // Small tables, and the cycle that is told of each.
+use crate::making::table;
 use cycles::{Unsound, first_cycle, sound};
 use relations::{Matrix, Relation};
 use std::alloc::AllocError;
 use std::test::Fail;
 
-// The table of `networks` networks in which each first network of `pairs` is a customer of the second.
-fn table(rt: HostRuntime, networks: u8, pairs: &[(u8, u8)]) -> Result<Matrix, AllocError> {
-    let mut matrix = Matrix::new(rt.alloc(), networks)?;
-    for (customer, provider) in pairs {
-        matrix.relate(*customer, *provider, Relation::Provider);
-    }
-    Ok(matrix)
+// The table of six networks in which each first network of `pairs` is a customer of the second.
+fn six(rt: HostRuntime, pairs: &[(u8, u8)]) -> Result<Matrix, AllocError> {
+    let ties: Vec<(u8, u8, Relation)> = pairs
+        .iter()
+        .map(|(customer, provider)| (*customer, *provider, Relation::Provider))
+        .collect(rt.alloc())?;
+    table(rt, 6, ties.as_slice())
 }
 
 fn told(rt: HostRuntime, pairs: &[(u8, u8)]) -> Result<Option<Vec<u8>>, AllocError> {
-    first_cycle(&table(rt, 6, pairs)?, rt.alloc())
+    first_cycle(&six(rt, pairs)?, rt.alloc())
 }
 
 #[test]
@@ -49,14 +50,14 @@ fn no_cycle(rt: HostRuntime) -> Result<(), Fail> {
 
 #[test]
 fn taken_as_sound(rt: HostRuntime) -> Result<(), Fail> {
-    let relations = sound(table(rt, 6, &[(0, 1), (1, 2), (0, 2)])?, rt.alloc())?;
+    let relations = sound(six(rt, &[(0, 1), (1, 2), (0, 2)])?, rt.alloc())?;
     assert!(rt; relations.relation(2, 0) == Relation::Customer);
     Ok(())
 }
 
 #[test]
 fn refused_as_unsound(rt: HostRuntime) -> Result<(), Fail> {
-    match sound(table(rt, 6, &[(3, 5), (5, 4), (4, 3)])?, rt.alloc()) {
+    match sound(six(rt, &[(3, 5), (5, 4), (4, 3)])?, rt.alloc()) {
         Err(Unsound::Cycle(ring)) => {
             assert!(rt; ring.as_slice() == [3, 5, 4].as_slice());
             Ok(())

@@ -22,3 +22,13 @@ fn a_block_that_there_is_not(rt: HostRuntime) -> Result<(), Fail> {
     assert!(rt; !table.set(2, 5, &[5, 9]));
     Ok(())
 }
+
+#[test]
+fn a_copy_holds_the_same(rt: HostRuntime) -> Result<(), Fail> {
+    let mut table = PathTable::new(rt.alloc(), 2)?;
+    table.set(1, 5, &[5, 9]);
+    let copy = table.clone()?;
+    table.clear(1, 5);
+    assert!(rt; holds(&copy, &[5, 9]));
+    Ok(())
+}

@@ -1,17 +1,18 @@
 // A customer's path is told, told again and told otherwise; a peer's path, which is for customers only, takes it back.
+use crate::making::sound_relations;
 use advertisement::{Audience, advertise, tell};
-use cycles::sound;
-use relations::{Matrix, Relation, Relations};
+use relations::{Relation, Relations};
 use selection::{Node, PathTable, Route};
 use std::test::Fail;
 
 // Network 0 has the customer 1, the provider 2 and the peer 3.
 fn ties(rt: HostRuntime) -> Result<Relations, Fail> {
-    let mut matrix = Matrix::new(rt.alloc(), 4)?;
-    matrix.relate(0, 1, Relation::Customer);
-    matrix.relate(0, 2, Relation::Provider);
-    matrix.relate(0, 3, Relation::Peer);
-    Ok(sound(matrix, rt.alloc())?)
+    let ties = [
+        (0, 1, Relation::Customer),
+        (0, 2, Relation::Provider),
+        (0, 3, Relation::Peer),
+    ];
+    sound_relations(rt, 4, &ties)
 }
 
 // Network 0 with its links up.

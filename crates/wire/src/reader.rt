@@ -2,6 +2,7 @@
 ghost use Rattle.std.specs.Prelude.{◌≡◌, ◌+◌, ◌<◌, ◌≤◌, length, MatchOption, nat_le, slice_index};
 ghost use Rattle.wire.specs.Reading.{input, place, word16};
 
+// That the input stays is a clause of each reading, since an invariant of the type speaks of one moment.
 #[derive(Drop)]
 pub struct Reader<'a> {
     bytes: &'a [u8],

@@ -16,7 +16,7 @@ use crate::router::Router;
 use crate::tables::Tables;
 use advertisement::{Announcement, Audience, Update};
 use relations::Relations;
-use selection::{PathTable, is_up};
+use selection::PathTable;
 
 // Refuses the way of a path for the block of `home` that network `me` hears from `from`, if something is wrong with it.
 fn check_way(relations: &Relations, me: u8, from: u8, home: u8, path: &[u8]) -> Result<(), Fault>
@@ -57,7 +57,7 @@ impl Router {
         if !relations.relation(self.number, from).is_related() {
             return Err(Fault::NotRelated);
         }
-        if !is_up(&self.up, from) {
+        if !self.up.contains(from) {
             return Err(Fault::LinkDown);
         }
         Ok(())
@@ -101,28 +101,22 @@ impl Router {
     }
 
     // Takes what an update says of its block: writes it over what was received from its teller, selects anew and tells.
-    fn take(
-        self,
-        relations: &Relations,
-        tables: &mut Tables,
-        block: u16,
-        from: u8,
-        update: &Update,
-    ) -> Audience
-        requires there { block < vec_len tables.old.homes }
+    fn take(self, relations: &Relations, tables: &mut Tables, from: u8, update: &Update) -> Audience
+        requires there { (news update.now).block < vec_len tables.old.homes }
         requires fits { fits (count tables.old.received) from update.now ≡ true }
         ensures homes { tables.new.homes ≡ tables.old.homes }
         ensures audiences { tables.new.audiences ≡ tables.old.audiences }
         ensures received { (b k : ℕ) → row tables.new.received b k ≡ with_row (row tables.old.received) (news update.now).block from (news update.now).says b k }
-        ensures held { held self tables.new ≡ retold (world relations.now tables.old) self.number (only block) (then_held self tables.new tables.old) }
-        ensures whom { (k : ℕ) → in_audience result k ≡ sends (world relations.now tables.old) self.number (only block) (then_held self tables.new tables.old) block k }
+        ensures held { held self tables.new ≡ retold (world relations.now tables.old) self.number (only (news update.now).block) (then_held self tables.new tables.old) }
+        ensures whom { (k : ℕ) → in_audience result k ≡ sends (world relations.now tables.old) self.number (only (news update.now).block) (then_held self tables.new tables.old) (news update.now).block k }
     {
         receive(&mut tables.received, from, update);
-        self.retell(relations, tables, block)
+        self.retell(relations, tables, update.block())
     }
 
-    // Hears an update from a neighbour: refuses it, or takes it, selects anew for its block and tells. The router is
-    // handed back as it was, a form that the project asks for (docs/DECISIONS.md).
+    // Hears an update from a neighbour: refuses it, or takes it, selects anew for its block and tells. Who sends stands
+    // beside what it sends, since the update is the message as it came. The router is handed back as it was, a form that
+    // the project asks for (docs/DECISIONS.md).
     pub fn hear(
         self,
         relations: &Relations,
@@ -140,7 +134,7 @@ impl Router {
         if let Err(fault) = self.check(relations, tables, from, &update) {
             return (self, Err(fault));
         }
-        let audience = self.take(relations, tables, update.block(), from, &update);
+        let audience = self.take(relations, tables, from, &update);
         (self, Ok(audience))
     }
 }

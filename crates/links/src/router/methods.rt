@@ -1,6 +1,7 @@
 // Making a router, and telling anew.
-ghost use Rattle.std.specs.Prelude.{◌≡◌, ℕ, ◌<◌, false, replicate, if◌then◌else◌, vec_len, nat_lt};
+ghost use Rattle.std.specs.Prelude.{◌≡◌, ℕ, ◌<◌, false, if◌then◌else◌, vec_len, nat_lt};
 ghost use Rattle.selection.specs.Choosing.{meaning, nothing};
+ghost use Rattle.selection.specs.Nodes.{link_up};
 ghost use Rattle.advertisement.specs.Audiences.{in_audience};
 ghost use Rattle.links.specs.Held.{held, links_up, then_held, world};
 ghost use Rattle.links.specs.Hearing.{only};
@@ -10,14 +11,7 @@ use crate::router::Router;
 use crate::tables::Tables;
 use advertisement::{Audience, advertise};
 use relations::Relations;
-use selection::{Node, Route, select};
-
-// No link up. Apart, since what an array literal holds is known where a contract says it.
-fn none_up() -> [bool; 64]
-    ensures { result ≡ replicate 64 false }
-{
-    [false; 64]
-}
+use selection::{NetworkSet, Node, Route, select};
 
 impl Router {
     // The router of a network, with every link down.
@@ -27,19 +21,19 @@ impl Router {
     {
         Router {
             number,
-            up: none_up(),
+            up: NetworkSet::none(),
         }
     }
 
     // Its network among its neighbours.
     fn node<'a>(&'a self, relations: &'a Relations) -> Node<'a>
         ensures relations { result.relations.now ≡ relations.now }
-        ensures up { result.up.now ≡ self.now.up }
+        ensures up { (k : ℕ) → link_up result k ≡ links_up self.now k }
         ensures me { result.me ≡ self.now.number }
     {
         Node {
             relations,
-            up: &self.up,
+            up: self.up.as_slice(),
             me: self.number,
         }
     }

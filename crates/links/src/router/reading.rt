@@ -3,7 +3,6 @@ ghost use Rattle.std.specs.Prelude.{◌≡◌};
 ghost use Rattle.links.specs.Held.{links_up};
 
 use crate::router::Router;
-use selection::is_up;
 
 impl Router {
     // The number of its network.
@@ -17,6 +16,6 @@ impl Router {
     pub fn is_up(self, neighbour: u8) -> bool
         ensures { result ≡ links_up self neighbour }
     {
-        is_up(&self.up, neighbour)
+        self.up.contains(neighbour)
     }
 }

@@ -19,11 +19,11 @@ impl Router {
         ensures number { result.number ≡ self.number }
         ensures links { (k : ℕ) → links_up result k ≡ at other up (links_up self) k }
     {
-        self.up[other as usize] = up;
+        self.up.set(other, up);
         self
     }
 
-    // Selects anew for every block and tells, block by block.
+    // Selects anew for every block and tells, block by block. Over numbers, since `retell` writes to the tables whole.
     fn retell_all(self, relations: &Relations, tables: &mut Tables)
         ensures homes { tables.new.homes ≡ tables.old.homes }
         ensures held { held self tables.new ≡ retold (world relations.now tables.old) self.number every (held self tables.old) }

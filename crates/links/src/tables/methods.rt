@@ -1,10 +1,11 @@
 // Making and reading the tables.
-ghost use Rattle.std.specs.Prelude.{◌≡◌, ◌<◌, ◌≤◌, IfOk, if◌then◌else◌, Some, None, vec_len, MatchOption, nat_lt, slice_index, slice_index_or};
+ghost use Rattle.std.specs.Prelude.{◌≡◌, ◌<◌, ◌≤◌, length, if◌then◌else◌, Some, None, vec_len, MatchOption, MatchResult, nat_lt, slice_index, slice_index_or};
 ghost use Rattle.selection.specs.Paths.{row};
 ghost use Rattle.advertisement.specs.Updates.{block_of, said};
-ghost use Rattle.links.specs.Made.{Fresh, Same};
+ghost use Rattle.links.specs.Made.{Fresh, IfTooLarge, Same};
 
 use crate::tables::Tables;
+use crate::unmade::Unmade;
 use advertisement::{Audience, Update, update_of};
 use selection::{MOST_BLOCKS, PathTable};
 use std::alloc::{AllocError, Global};
@@ -28,24 +29,24 @@ impl Clone for Tables {
 }
 
 impl Tables {
-    // Nothing was received or advertised. None for more than 256 blocks.
-    pub fn new(heap: Global, homes: &[u8]) -> Result<Option<Tables>, AllocError>
-        ensures { IfOk result (λ o. Fresh homes.now o) }
+    // Nothing was received or advertised. Refused for more than 256 blocks.
+    pub fn new(heap: Global, homes: &[u8]) -> Result<Tables, Unmade>
+        ensures { MatchResult result (Fresh homes.now) (IfTooLarge (256 < length homes.now)) }
     {
         if homes.len() > MOST_BLOCKS as usize {
-            return Ok(None);
+            return Err(Unmade::TooLarge);
         }
         let blocks = homes.len() as u16;
         let received = PathTable::new(heap, blocks)?;
         let advertised = PathTable::new(heap, blocks)?;
-        let audiences = vec![in heap; Audience::nobody(); homes.len()]?;
+        let audiences = vec![in heap; Audience::none(); homes.len()]?;
         let homes = homes.to_vec(heap)?;
-        Ok(Some(Tables {
+        Ok(Tables {
             homes,
             received,
             advertised,
             audiences,
-        }))
+        })
     }
 
     // How many blocks there are.
@@ -60,6 +61,13 @@ impl Tables {
         ensures { MatchOption result (vec_len self.now.homes ≤ block) (λ a. (block < vec_len self.now.homes) × (a ≡ slice_index_or self.now.audiences.items block a)) }
     {
         self.audiences.get(block as usize).copied()
+    }
+
+    // Who was to be told of each block when a link turned last.
+    pub fn audiences(&self) -> &[Audience]
+        ensures { result.now ≡ self.now.audiences.items }
+    {
+        &self.audiences
     }
 
     // What was told a neighbour last of a block, as the update that tells it.

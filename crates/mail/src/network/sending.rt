@@ -14,7 +14,8 @@ use links::Fault;
 use std::alloc::AllocError;
 
 impl Network {
-    // Sends what it tells of a block to those who are to be told, in the order of their numbers.
+    // Sends what it tells of a block to those who are to be told, in the order of their numbers. How many networks there
+    // are is of the relations, which sending needs nothing else of.
     pub(crate) fn post(
         &self,
         networks: u8,
@@ -34,7 +35,8 @@ impl Network {
         Ok(())
     }
 
-    // Sends what it tells of a block after it heard an update; nothing after a refusal.
+    // Sends what it tells of a block after it heard an update. A refusal is no error of sending: nothing is sent. Apart,
+    // since the end of `hear` is proved by hand, and a wrong block is refused at this contract.
     pub(crate) fn post_heard(
         &self,
         networks: u8,
@@ -54,9 +56,8 @@ impl Network {
     pub(crate) fn post_all(&self, networks: u8, letters: &mut Vec<Letter>) -> Result<(), AllocError>
         ensures { OnOk result (posts letters.new.items ≡ posts letters.old.items ++ gather (λ b. mailing (number_of self.now) b (whom self.now.tables.audiences.items b) (row self.now.tables.advertised b) networks) (vec_len self.now.tables.homes)) }
     {
-        for block in 0..self.tables.blocks() {
-            let audience = self.tables.audience(block).unwrap();
-            self.post(networks, block, audience, letters)?;
+        for (block, audience) in (0..).zip(self.tables.audiences()) {
+            self.post(networks, block, *audience, letters)?;
         }
         Ok(())
     }

@@ -11,7 +11,7 @@ use relations::Relations;
 use std::alloc::AllocError;
 
 impl Network {
-    // The network after it heard an update.
+    // The network after it heard an update. Not of a `Letter`: whom that goes to is this network.
     pub fn hear(
         &self,
         relations: &Relations,

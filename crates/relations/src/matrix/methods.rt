@@ -13,28 +13,26 @@ impl Matrix {
         ensures count { IfOk result (λ m. count m ≡ min networks 64) }
         ensures none { IfOk result (λ m. (i j : ℕ) → rel m i j ≡ unrelated i j) }
     {
-        let rows = vec![in heap; [Relation::Unrelated; 64]; 64]?;
-        Ok(Matrix {
-            networks: networks.min(MOST),
-            rows,
-        })
+        let rows = vec![in heap; [Relation::Unrelated; 64]; networks.min(MOST) as usize]?;
+        Ok(Matrix { rows })
     }
 
     // How many networks there are.
     pub fn networks(&self) -> u8
         ensures { result ≡ count self.now }
     {
-        self.networks
+        self.rows.len() as u8
     }
 
     // What network j is to network i.
     pub fn relation(&self, i: u8, j: u8) -> Relation
         ensures { result ≡ rel self.now i j }
     {
-        if i >= MOST || j >= MOST {
-            return Relation::Unrelated;
-        }
-        self.rows[i as usize][j as usize]
+        self.rows
+            .get(i as usize)
+            .and_then(|row| row.get(j as usize))
+            .copied()
+            .unwrap_or(Relation::Unrelated)
     }
 
     // From now on network j is `relation` to network i, and i the opposite to j. False, and nothing done, for a
@@ -44,7 +42,7 @@ impl Matrix {
         ensures same { count self.new ≡ count self.old }
         ensures after { MatchBool result ((a b : ℕ) → rel self.new a b ≡ with_pair (rel self.old) i j relation a b) (self.new ≡ self.old) }
     {
-        if i >= self.networks || j >= self.networks || i == j {
+        if i >= self.networks() || j >= self.networks() || i == j {
             return false;
         }
         self.rows[i as usize][j as usize] = relation;

@@ -2,10 +2,10 @@
 ghost use Rattle.std.specs.Prelude.{◌≡◌, Some};
 ghost use Rattle.report.specs.Homes.{cause_words, home_words, number, refusal_words};
 
-use crate::homes::{HomeCause, HomeRefusal};
+use crate::homes::{Home, HomeCause, HomeRefusal};
 use std::error::Error;
 use std::fmt;
-use text::{Fault, Numbered};
+use text::Numbered;
 
 impl Numbered for HomeCause {
     ghost number_of = { number };
@@ -19,7 +19,7 @@ impl Numbered for HomeCause {
 }
 
 impl HomeCause {
-    // The cause in words.
+    // The cause in words. It stands beside `Display`, since it can't fail.
     pub fn text(self) -> &'static str
         ensures { result.now ≡ cause_words self }
     {
@@ -38,10 +38,6 @@ impl fmt::Display for HomeCause {
     }
 }
 
-// The place of a home.
-#[derive(Clone, Copy)]
-struct Home(usize);
-
 impl fmt::Display for Home {
     ghost output = { λ home. Some (home_words home.0) };
 
@@ -55,10 +51,7 @@ impl fmt::Display for HomeRefusal {
 
     fn fmt<W: fmt::Write>(&self, f: &mut fmt::Formatter<W>) -> fmt::Result {
         match self {
-            HomeRefusal::Fault { place, cause } => {
-                let (place, cause) = (Home(*place), *cause);
-                write!(f, "{}", Fault { place, cause })
-            }
+            HomeRefusal::Fault(fault) => write!(f, "{fault}"),
             HomeRefusal::Memory => f.write_str("out of memory"),
         }
     }

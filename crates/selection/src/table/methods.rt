@@ -1,5 +1,5 @@
 // Making, reading and writing the table.
-ghost use Rattle.std.specs.Prelude.{◌≡◌, ℕ, ◌+◌, ◌≤◌, min, ◌&&◌, ◌∷◌, ◌++◌, length, IfOk, Some, None, MatchBool, nat_le, nat_lt};
+ghost use Rattle.std.specs.Prelude.{◌≡◌, false, ℕ, ◌+◌, ◌≤◌, min, ◌&&◌, ◌∷◌, ◌++◌, length, IfOk, Some, None, MatchBool, nat_le, nat_lt};
 ghost use Rattle.std.specs.Option.{option_map};
 ghost use Rattle.selection.specs.Paths.{count, row};
 ghost use Rattle.selection.specs.Rows.{said, with_row, without};
@@ -65,7 +65,7 @@ impl PathTable {
     }
 
     // From now on `first`, followed by `path`, is the path for `block` that `neighbour` told. False, and nothing done,
-    // for a path of 64 networks or more, and for a block or a neighbour that there is not.
+    // for a path of 64 networks or more, and for a block or a neighbour that there is not: a test, as `set` is.
     pub fn set_in_front(&mut self, block: u16, neighbour: u8, first: u8, path: &[u8]) -> bool
         ensures test { result ≡ (nat_lt block (count self.old) && nat_lt neighbour 64 && nat_lt (length path.now) 64) }
         ensures same { count self.new ≡ count self.old }
@@ -74,11 +74,12 @@ impl PathTable {
         self.write(block, neighbour, &[first], path)
     }
 
-    // From now on `neighbour` told nothing for `block`.
+    // From now on `neighbour` told nothing for `block`. Nothing is done for a block or a neighbour that there is not.
     #[tactic(auto, using(crate::proofs::Written::none_written))]
     pub fn clear(&mut self, block: u16, neighbour: u8)
         ensures same { count self.new ≡ count self.old }
         ensures after { (b j : ℕ) → row self.new b j ≡ with_row (row self.old) block neighbour None b j }
+        ensures kept { (nat_lt block (count self.old) && nat_lt neighbour 64) ≡ false → self.new ≡ self.old }
     {
         self.write(block, neighbour, &[], &[]);
     }
@@ -88,6 +89,7 @@ impl PathTable {
         ensures same { count self.new ≡ count self.old }
         ensures after { (b j : ℕ) → row self.new b j ≡ without (row self.old) neighbour b j }
     {
+        // over numbers, since `clear` names its row by them
         for block in 0..self.blocks() {
             self.clear(block, neighbour);
         }

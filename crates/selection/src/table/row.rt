@@ -3,8 +3,9 @@ ghost use Rattle.std.specs.Prelude.{◌≡◌, ◌+◌, ◌≤◌, ◌++◌, ◌
 ghost use Rattle.std.specs.Option.{option_map};
 ghost use Rattle.selection.specs.Rows.{Full, Padded, said, told};
 
-// The path is the first `length` networks, and zeros stand past it; a length of 0 says that nothing was told. An array and
-// a length, and no `Vec` or `Option`: a row has fixed memory, and is lent on as a part to be read or written.
+// The path is the first `length` networks; a length of 0 says that nothing was told. Places past the length are zero, so
+// that rows that say the same are the same bytes (theorem `SameBytes`). An array and a length, and no `Vec` or `Option`: a
+// row has fixed memory, and is lent on as a part to be read or written.
 #[derive(Clone, Copy)]
 pub(crate) struct Row {
     length: u8,

@@ -1,12 +1,13 @@
 // Hearing what is in flight.
-ghost use Rattle.std.specs.Prelude.{◌≡◌, ◌<◌, ◌≤◌, true, length, IfOk, MatchResult, OnOk, nat_lt, slice_set};
+ghost use Rattle.std.specs.Prelude.{◌≡◌, ◌<◌, ◌≤◌, true, false, length, IfOk, MatchResult, OnOk, slice_set};
+ghost use Rattle.simulation.specs.declared.cause.Cause.TheVariants.{NoSuchNetwork, TooMany};
 ghost use Rattle.simulation.specs.Simulated.{Aside, Ready, letter_of, state_of, world_of};
 ghost use Rattle.simulation.specs.Resting.{Lessens};
 ghost use Rattle.simulation.specs.Steps.{Hears, NotHeard, both, hearing};
 ghost use Rattle.mail.specs.Posting.{Oldest};
 ghost use Rattle.mail.specs.Whole.{number_of, whole};
 
-use crate::cause::Cause;
+use crate::cause::{Cause, Refusal};
 use crate::simulation::Simulation;
 use mail::{Letter, Network, oldest, without};
 use std::alloc::AllocError;
@@ -14,14 +15,28 @@ use std::alloc::AllocError;
 // The most letters that a hearing or a turn may leave in flight.
 const MOST_LETTERS: usize = 4096;
 
-// Whether there are more letters than may be in flight.
-pub fn too_many(letters: &[Letter]) -> bool
-    ensures { result ≡ nat_lt 4096 (length letters.now) }
+// Refused where there are more letters than may be in flight.
+pub(crate) fn have_room(letters: &[Letter]) -> Result<(), Cause>
+    ensures { MatchResult result (λ _. length letters.now ≤ 4096) (λ cause. (cause ≡ TooMany) × (4096 < length letters.now)) }
 {
-    letters.len() > MOST_LETTERS
+    if letters.len() > MOST_LETTERS {
+        return Err(Cause::TooMany);
+    }
+    Ok(())
 }
 
 impl Simulation {
+    // Refused where one of two numbers is that of no network.
+    pub(crate) fn both_exist(&self, one: u8, other: u8) -> Result<(), Cause>
+        ensures { MatchResult result (λ _. both (world_of self.now) one other ≡ true) (λ cause. (cause ≡ NoSuchNetwork) × (both (world_of self.now) one other ≡ false)) }
+    {
+        let networks = self.relations.networks();
+        if one >= networks || other >= networks {
+            return Err(Cause::NoSuchNetwork);
+        }
+        Ok(())
+    }
+
     // The network that the letter at a place goes to, as it is when it has heard it, and what is left in flight then. The
     // letter is the oldest between its ends.
     pub(crate) fn aside(&self, place: usize) -> Result<(Network, Vec<Letter>), AllocError>
@@ -35,13 +50,10 @@ impl Simulation {
     }
 
     // What is left in flight when network `to` has heard the oldest update from `from`, and that network as it is then.
-    fn heard(&self, from: u8, to: u8) -> Result<(Network, Vec<Letter>), Cause>
+    fn heard(&self, from: u8, to: u8) -> Result<(Network, Vec<Letter>), Refusal>
         ensures { MatchResult result (λ then. (both (world_of self.now) from to ≡ true) × (0 < length ((state_of self.now).flight from to)) × Aside self.now to (hearing (world_of self.now) from to (state_of self.now)) then.0 then.1.items) (NotHeard (world_of self.now) from to (state_of self.now)) }
     {
-        let networks = self.relations.networks();
-        if from >= networks || to >= networks {
-            return Err(Cause::NoSuchNetwork);
-        }
+        self.both_exist(from, to)?;
         let place = oldest(&self.letters, from, to).ok_or(Cause::NothingInFlight)?;
         Ok(self.aside(place)?)
     }
@@ -58,15 +70,13 @@ impl Simulation {
     }
 
     // Network `to` hears the oldest update that is in flight from `from`.
-    pub fn hear(&mut self, from: u8, to: u8) -> Result<(), Cause>
+    pub fn hear(&mut self, from: u8, to: u8) -> Result<(), Refusal>
         ensures world { world_of self.new ≡ world_of self.old }
-        ensures played { MatchResult result (λ _. Hears (world_of self.old) from to (state_of self.old) (state_of self.new)) (λ cause. NotHeard (world_of self.old) from to (state_of self.old) cause × (self.new ≡ self.old)) }
+        ensures played { MatchResult result (λ _. Hears (world_of self.old) from to (state_of self.old) (state_of self.new)) (λ refusal. NotHeard (world_of self.old) from to (state_of self.old) refusal × (self.new ≡ self.old)) }
         ensures falls { OnOk result (Lessens (world_of self.old) (state_of self.old) (state_of self.new)) }
     {
         let (network, letters) = self.heard(from, to)?;
-        if too_many(&letters) {
-            return Err(Cause::TooMany);
-        }
+        have_room(&letters)?;
         self.put(network, letters);
         Ok(())
     }

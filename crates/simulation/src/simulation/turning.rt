@@ -5,22 +5,24 @@ ghost use Rattle.links.specs.Run.{turned as turned_by};
 ghost use Rattle.simulation.specs.Simulated.{Aside2, state_of, world_of};
 ghost use Rattle.simulation.specs.Steps.{NotTurned, Turns, both};
 
-use crate::cause::Cause;
+use crate::cause::{Cause, Refusal};
 use crate::simulation::Simulation;
-use crate::simulation::hearing::too_many;
+use crate::simulation::hearing::have_room;
 use mail::{Letter, Network, cut_link, turn_both};
 
 impl Simulation {
     // The two networks as they are when the link between them has turned, and what is in flight then.
-    fn turned(&self, one: u8, other: u8, up: bool) -> Result<(Network, Network, Vec<Letter>), Cause>
+    fn turned(
+        &self,
+        one: u8,
+        other: u8,
+        up: bool,
+    ) -> Result<(Network, Network, Vec<Letter>), Refusal>
         ensures { MatchResult result (λ then. (both (world_of self.now) one other ≡ true) × (related ((world_of self.now).rel one other) ≡ true) × Aside2 self.now one other (turned_by (world_of self.now) one other up (state_of self.now)) then.0 then.1 then.2.items) (NotTurned (world_of self.now) one other up (state_of self.now)) }
     {
-        let networks = self.relations.networks();
-        if one >= networks || other >= networks {
-            return Err(Cause::NoSuchNetwork);
-        }
+        self.both_exist(one, other)?;
         if !self.relations.relation(one, other).is_related() {
-            return Err(Cause::NoLink);
+            return Err(Cause::NoLink.into());
         }
         let mut letters = cut_link(&self.letters, one, other, *self.letters.allocator())?;
         let (first, second) = turn_both(
@@ -34,14 +36,13 @@ impl Simulation {
     }
 
     // The link of two networks turns, or is turned to what it is already.
-    pub fn turn(&mut self, one: u8, other: u8, up: bool) -> Result<(), Cause>
+    pub fn turn(&mut self, one: u8, other: u8, up: bool) -> Result<(), Refusal>
         ensures world { world_of self.new ≡ world_of self.old }
-        ensures played { MatchResult result (λ _. Turns (world_of self.old) one other up (state_of self.old) (state_of self.new)) (λ cause. NotTurned (world_of self.old) one other up (state_of self.old) cause × (self.new ≡ self.old)) }
+        ensures played { MatchResult result (λ _. Turns (world_of self.old) one other up (state_of self.old) (state_of self.new)) (λ refusal. NotTurned (world_of self.old) one other up (state_of self.old) refusal × (self.new ≡ self.old)) }
     {
         let (first, second, letters) = self.turned(one, other, up)?;
-        if too_many(&letters) {
-            return Err(Cause::TooMany);
-        }
+        have_room(&letters)?;
+        // Both ends and the letters at once, and not each by `put`: with one end alone the state is none that a run reaches.
         self.networks[other as usize] = second;
         self.networks[one as usize] = first;
         self.letters = letters;

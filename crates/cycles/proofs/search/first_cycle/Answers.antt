@@ -1,7 +1,8 @@
 -- The walk up from each network tells whether a cycle has it for its lowest member.
 use Rattle.std.proofs.Common.{sym, subst, arith}
 use Rattle.relations.specs.Cycle.{First}
-use Rattle.relations.specs.Table.{rel}
+use Rattle.relations.specs.Table.{count, rel}
+use Rattle.relations.proofs.Tables.{within}
 use Rattle.cycles.proofs.Rings.{no_cycle, is_first, none_more}
 use Rattle.cycles.proofs.search.first_cycle.Goals as goal
 
@@ -20,4 +21,4 @@ loop-low-preserved c = none_more _ _ (c.steps_to_low.ensures.none c.in_default.i
 
 pub returns : goal.returns
 returns c =
-    no_cycle (rel c.args.matrix.now) c.args.matrix.now.networks c.args.matrix.now.within (λ l k h. c.loop-low.invariant l k (omega arith))
+    no_cycle (rel c.args.matrix.now) (count c.args.matrix.now) (within c.args.matrix.now) (λ l k h. c.loop-low.invariant l k (omega arith))

@@ -1,7 +1,6 @@
 -- After j networks the best is that among them; so long as the keys that were compared are equal.
-use Rattle.std.proofs.Common.{◌≡◌, ℕ, ◌<◌, length, get_or}
-use Rattle.std.specs.Iterator.Adapters.{zip_first, zip_second}
-use Rattle.std.specs.Slice.Iter.{iter_rest}
+use Rattle.std.proofs.Common.{◌≡◌, length}
+use Rattle.selection.proofs.Compared.{EqualSoFar}
 use Rattle.selection.specs.Choosing.{among, meaning, shorter}
 use Rattle.selection.specs.Nodes.{link_up, relation_to}
 use Rattle.selection.specs.Paths.{row}
@@ -11,4 +10,4 @@ abbrev pub invariant-candidates : goal.invariant-candidates
 invariant-candidates l = meaning l.best ≡ among shorter (relation_to l.node) (link_up l.node) l.node.me (λ j. row l.received l.block j) l.j
 
 abbrev pub invariant-loop-new : goal.invariant-loop-new
-invariant-loop-new l = (i : ℕ) → i < length l.yielded → get_or (iter_rest (zip_first l.initial.new-iterator)) i 0 ≡ get_or (iter_rest (zip_second l.initial.new-iterator)) i 0
+invariant-loop-new l = EqualSoFar l.initial.new-iterator (length l.yielded)

@@ -15,7 +15,7 @@ loop-k-init c =
 pub returns-in_err-tie-clause-answer : goal.returns-in_err-tie-clause-answer
 returns-in_err-tie-clause-answer c =
     let s = c.loop-k.invariant in
-    let told : (cause : Cause) × (c.read.result ≡ Err cause) × (c.from_residual-in_err-tie.result ≡ Err (Fault (Tie c.loop-k.k-counter) cause)) = search rules in
+    let told : (cause : Cause) × (c.read.result ≡ Err cause) × (c.from_residual-in_err-tie.result ≡ Err (Fault (record { place = Tie c.loop-k.k-counter; cause = cause }))) = search rules in
     rw told.2 (s.clean, omega (arith, c.loop-k-test.true, c.requires.ties), sym (told_next s) ∙ MatchResult-at_err _ _ _ told.1 c.read.ensures.cases)
 
 pub loop-k-preserved : goal.loop-k-preserved

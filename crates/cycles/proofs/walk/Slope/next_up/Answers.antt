@@ -5,10 +5,11 @@ use Rattle.std.proofs.lemmas.Iterator.{first_from_Range}
 use Rattle.std.specs.Option.{option_eq}
 use Rattle.std.proofs.lemmas.Option.{MatchOption-at_some}
 use Rattle.relations.specs.Between.{Between, provider}
-use Rattle.relations.specs.Table.{rel}
+use Rattle.relations.specs.Table.{count, rel}
 use Rattle.cycles.specs.Walk.{Climb, Fewest, Shortest}
 use Rattle.relations.specs.declared.relation.Relation.TheVariants.{Provider}
 use Rattle.relations.proofs.Chains.{is_provider, not_provider}
+use Rattle.relations.proofs.Tables.{within}
 use Rattle.cycles.proofs.Walks.{in_table}
 use Rattle.cycles.proofs.Rings.{climb_first, goes_not}
 use Rattle.cycles.proofs.walk.Slope.next_up.Goals as goal
@@ -51,7 +52,7 @@ unwrap-requires c =
     some_found _ _ _
     (λ none.
     let r = climb_first (rel t) c.args.self.low c.args.left c.args.at c.args.self.low c.requires.some.0 c.requires.short.walk in
-    leads_not _ _ _ _ r.0 c.requires.short (none r.0 r.2 (in_table (rel t) t.networks c.args.at r.0 t.«mutual» t.within t.few r.1)) r.2 r.1 r.3)
+    leads_not _ _ _ _ r.0 c.requires.short (none r.0 r.2 (in_table (rel t) (count t) c.args.at r.0 t.«mutual» (within t) t.few r.1)) r.2 r.1 r.3)
     (found (goal.at.unwrap-requires c).After-find)
 
 pub returns : goal.returns

@@ -1,9 +1,9 @@
 -- A taken update is written, and its block told anew: the local step.
-use Rattle.std.proofs.Common.{◌≡◌, ◌<◌, vec_len, sym, refl, ◌∙◌, subst}
+use Rattle.std.proofs.Common.{refl, ◌∙◌}
 use Rattle.links.specs.Held.{held, news, world}
 use Rattle.links.specs.Hearing.{only}
 use Rattle.links.specs.Local.{retold, sends}
-use Rattle.links.proofs.Receiving.{fitting, heard_is, news_block, replaced_is, there}
+use Rattle.links.proofs.Receiving.{fitting, heard_is, replaced_is, there}
 use Rattle.links.proofs.router.Router.hear.Goals as goal
 
 pub take-audience-requires : goal.take-audience-requires
@@ -11,9 +11,8 @@ take-audience-requires c =
     let r = c.args.relations.now in
     let t = c.args.tables.now in
     let taken = c.in_default.ensures in
-    let known = there (world r t) c.args.self.number (held c.args.self t) c.args.from (news c.args.update) taken in
     record {
-      there = subst (λ b. b < vec_len t.homes) (news_block c.args.update ∙ sym c.block.ensures) known.0;
+      there = (there (world r t) c.args.self.number (held c.args.self t) c.args.from (news c.args.update) taken).0;
       fits = fitting r t c.args.self c.args.from c.args.update taken;
     }
 
@@ -24,13 +23,12 @@ returns c =
     let s = held c.args.self c.args.tables.now in
     let u = news c.args.update in
     let taken = c.in_default.ensures in
-    let block : c.block.result ≡ u.block = c.block.ensures ∙ sym (news_block c.args.update) in
     let after = replaced_is s c.args.from u _ c.take-audience.ensures.received in
     record {
       router = refl;
       homes = c.take-audience.ensures.homes;
       audiences = c.take-audience.ensures.audiences;
-      held = c.take-audience.ensures.held ∙ (λ x. retold w me (only (block x)) (after x)) ∙ heard_is w me s c.args.from u taken;
-      answer = (taken, λ k. c.take-audience.ensures.whom k ∙ (λ x. sends w me (only (block x)) (after x) (block x) k));
+      held = c.take-audience.ensures.held ∙ (λ x. retold w me (only u.block) (after x)) ∙ heard_is w me s c.args.from u taken;
+      answer = (taken, λ k. c.take-audience.ensures.whom k ∙ (λ x. sends w me (only u.block) (after x) u.block k));
       kept = tt;
     }

@@ -1,8 +1,11 @@
 -- One more block is told, to those who stand among the audiences.
-use Rattle.std.proofs.Common.{rules, ◌<◌, get_or, vec_len, ◌≡◌, ◌++◌, vec_items, sym, ap, ◌∙◌, arith}
+use Rattle.std.proofs.Common.{rules, ◌≡◌, ℕ, List, ◌++◌, length, vec_items, vec_len, sym, ap, ◌∙◌, arith}
+use Rattle.std.proofs.lemmas.List.{length_push}
 use Rattle.selection.specs.Paths.{row}
+use Rattle.links.specs.Local.{gather}
 use Rattle.mail.specs.Posting.{whom}
-use Rattle.mail.specs.Posts.{mailing, posts}
+use Rattle.mail.specs.Posts.{Post, mailing, posts}
+use Rattle.mail.proofs.Counted.{counted_end, counted_turn}
 use Rattle.mail.proofs.Posted.{by_audience, posted_more}
 use Rattle.mail.proofs.network.Network.post_all.Goals as goal
 
@@ -10,9 +13,18 @@ pub loop-block-preserved : goal.loop-block-preserved
 loop-block-preserved c =
     let me = c.args.self.now in
     let t = me.tables in
-    let b = c.loop-block.block in
-    let a = c.unwrap-audience.result in
+    let told : ℕ → List Post = λ b. mailing me.router.number b (whom (vec_items t.audiences) b) (row t.advertised b) c.args.networks in
     let now = posts (vec_items c.loop-block.letters) in
-    let found : (b < vec_len t.homes) × (a ≡ get_or (vec_items t.audiences) b a) = search rules in
-    let step = c.in_ok-post.ensures ∙ ap (λ who. now ++ mailing me.router.number b who (row t.advertised b) c.args.networks) (sym (by_audience (vec_items t.audiences) b a (omega (arith, found.0, t.audiences.ok.0, t.whom)) found.1)) in
-    posted_more (λ b. mailing me.router.number b (whom (vec_items t.audiences) b) (row t.advertised b) c.args.networks) (posts (vec_items c.args.letters.now)) b now _ c.loop-block.invariant step
+    let turn = counted_turn (vec_items t.audiences) c.loop-block.yielded c.into_iter-block-iterator.result c.loop-block.block-iterator c.next.new.self c.next.result (search rules) (search rules) c.loop-block.yielded_by (c.in-Some.block, c.in-Some.audience) c.in-Some.is c.next.ensures.steps in
+    let who = by_audience (vec_items t.audiences) (length c.loop-block.yielded) c.in-Some.audience.now turn.1 (sym (turn.2 c.in-Some.audience.now)) in
+    let step : posts (vec_items c.post.new.letters) ≡ now ++ told (length c.loop-block.yielded) = c.in_ok-post.ensures ∙ (λ x. now ++ mailing me.router.number (turn.0 x) (sym who x) (row t.advertised (turn.0 x)) c.args.networks) in
+    posted_more told (posts (vec_items c.args.letters.now)) (length c.loop-block.yielded) now _ c.loop-block.invariant step ∙ ap (λ n. posts (vec_items c.args.letters.now) ++ gather told n) (sym (length_push c.loop-block.yielded (c.in-Some.block, c.in-Some.audience)))
+
+pub returns : goal.returns
+returns c =
+    let me = c.args.self.now in
+    let t = me.tables in
+    let told : ℕ → List Post = λ b. mailing me.router.number b (whom (vec_items t.audiences) b) (row t.advertised b) c.args.networks in
+    let end = counted_end (vec_items t.audiences) c.loop-block.yielded c.into_iter-block-iterator.result c.loop-block.block-iterator c.next.new.self c.next.result (search rules) (search rules) c.loop-block.yielded_by (omega (arith, t.audiences.ok.0, t.whom, t.few)) c.in-None.is c.next.ensures.steps in
+    let all : length c.loop-block.yielded ≡ vec_len t.homes = omega (arith, end, t.audiences.ok.0, t.whom) in
+    c.loop-block.invariant ∙ ap (λ n. posts (vec_items c.args.letters.now) ++ gather told n) all

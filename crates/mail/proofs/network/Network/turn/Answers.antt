@@ -3,9 +3,9 @@ use Rattle.std.proofs.Common.{◌≡◌, ℕ, List, ◌++◌, vec_items, sym, ap
 use Rattle.relations.specs.Sound.{networks}
 use Rattle.selection.specs.Paths.{row}
 use Rattle.links.specs.Local.{gather}
-use Rattle.mail.specs.Posting.{told_all, whom}
+use Rattle.mail.specs.Posting.{whom}
 use Rattle.mail.specs.Posts.{Post, mailing, posts}
-use Rattle.mail.proofs.Posted.{all_told, none_told}
+use Rattle.mail.proofs.Posted.{all_told, none_told, told_all}
 use Rattle.mail.proofs.Stepping.{turned_step}
 use Rattle.mail.proofs.network.Network.turn.Goals as goal
 use Rattle.mail.proofs.network.Network.turn.Goals.{then-is_ok+in_ok-post_all, else-is_ok}

@@ -1,7 +1,5 @@
 -- The oldest is taken out, and the network at its place steps.
-use Rattle.std.proofs.Common.{rules, ℕ, subst, ◌<◌, ◌&&◌, vec_items, arith}
-use Rattle.std.proofs.lemmas.Bool.{lt-ltb}
-use Rattle.relations.specs.Sound.{networks}
+use Rattle.std.proofs.Common.{rules, ℕ, subst, vec_items}
 use Rattle.mail.specs.Posting.{Oldest}
 use Rattle.mail.proofs.Posted.{oldest_between, oldest_ends, oldest_front}
 use Rattle.simulation.specs.Simulated.{Aside, state_of, world_of}
@@ -17,13 +15,10 @@ returns c =
     let x = c.args.self.now in
     let i = c.args.from in
     let j = c.args.to in
-    let n = networks x.relations in
-    let hi : i < n = omega (arith, c.if-from-networks.false, c.networks-networks.ensures) in
-    let hj : j < n = omega (arith, c.if-to-networks.false, c.networks-networks.ensures) in
     let old : Oldest i j c.in_ok-place.place (vec_items x.letters) = search rules in
     let e = oldest_ends i j c.in_ok-place.place (vec_items x.letters) old in
     let then = c.in_ok-aside.field-0 in (
-      (λ z. lt-ltb i n hi z && lt-ltb j n hj z),
+      c.in_ok-both_exist.ensures,
       heard_some i j c.in_ok-place.place _ (vec_items x.letters) (oldest_front i j c.in_ok-place.place (vec_items x.letters) old),
       subst {A = ℕ × ℕ} (λ p. Aside x p.1 (hearing (world_of x) p.0 p.1 (state_of x)) then.0 (vec_items then.1)) (λ z. (e.0 z, e.1 z)) c.in_ok-aside.ensures,
     )

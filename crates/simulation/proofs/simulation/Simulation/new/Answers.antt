@@ -2,7 +2,6 @@
 use Rattle.std.proofs.Common.{◌≡◌, ℕ, ◌≤◌, map, length, get_or, vec_items, vec_len, sym, ap, ◌∙◌, subst, arith, rules}
 use Rattle.relations.specs.Sound.{networks}
 use Rattle.links.specs.Run.{Reach, start}
-use Rattle.simulation.specs.Beginning.{AllFresh}
 use Rattle.mail.specs.Posts.{inside, posts}
 use Rattle.mail.specs.Whole.{ground, homes_of, nowhere, whole}
 use Rattle.simulation.proofs.Fresh.{begins_silent}
@@ -11,9 +10,9 @@ use Rattle.simulation.proofs.simulation.Simulation.new.Goals as goal
 pub invariant_of-result : goal.invariant_of-result
 invariant_of-result c =
     let r = c.args.relations in
-    let v = c.in-Some.networks in
+    let v = c.in_ok-networks.networks in
     let homes = c.in_ok-homes.homes in
-    let fresh = subst (AllFresh c.networks-2.result c.args.homes.now) c.in-Some.is c.in_ok-networks.ensures in
+    let fresh = c.in_ok-networks.ensures in
     let same : vec_items homes ≡ c.args.homes.now = search rules in
     let few : networks r ≤ 16 = omega (arith, c.if-networks-gt-MOST_NETWORKS.false, c.networks.ensures) in
     let blocks : vec_len homes ≤ 64 = omega (arith, c.if-homes-gt-MOST_BLOCKS.false, homes.ok.0, ap length same) in

@@ -1,19 +1,13 @@
 -- What was made aside takes its place.
-use Rattle.std.proofs.Common.{set, vec_items, sym, refl, ◌∙◌, subst}
+use Rattle.std.proofs.Common.{arith, set, vec_items, sym, refl, subst}
 use mathlib.Core.Logic.{∥∥₁_map}
-use Rattle.std.proofs.lemmas.Bool.{ltb-false, ltb-true}
+use Rattle.std.proofs.lemmas.Result.{err_from_is_err_and}
 use Rattle.links.specs.Run.{Reach}
 use Rattle.simulation.specs.Simulated.{state_of, world_of}
 use Rattle.mail.specs.Whole.{nowhere}
 use Rattle.simulation.proofs.Reaching.{turned_reach}
 use Rattle.simulation.proofs.Wholes.{crowded, homes_set, number_set}
 use Rattle.simulation.proofs.simulation.Simulation.turn.Goals as goal
-
-pub returns-then-too_many : goal.returns-then-too_many
-returns-then-too_many c =
-    let done = c.in_ok-first.ensures in
-    let full = crowded c.args.self.now _ (vec_items c.in_ok-first.letters) _ _ _ done.2.within done.2.state c.deref.ensures.value c.too_many.ensures in
-    record { world = refl; played = ((done.0, done.1, ltb-true 4096 _ (full ∙ c.if-too_many.true)), refl) }
 
 pub invariant_of-self : goal.invariant_of-self
 invariant_of-self c =
@@ -33,5 +27,13 @@ pub returns : goal.returns
 returns c =
     let x = c.args.self.now in
     let done = c.in_ok-first.ensures in
-    let full = crowded x (set (set (vec_items x.networks) c.args.other c.in_ok-first.second) c.args.one c.in_ok-first.first) (vec_items c.in_ok-first.letters) _ _ _ done.2.within refl c.deref.ensures.value c.too_many.ensures in
-    record { world = refl; played = record { below = done.0; tied = done.1; room = ltb-false 4096 _ (full ∙ c.if-too_many.false); step = done.2.state } }
+    let full = crowded x (set (set (vec_items x.networks) c.args.other c.in_ok-first.second) c.args.one c.in_ok-first.first) (vec_items c.in_ok-first.letters) _ _ done.2.within refl c.deref.ensures.value in
+    record { world = refl; played = record { below = done.0; tied = done.1; room = omega (arith, full, c.in_ok-have_room.ensures); step = done.2.state } }
+
+pub returns-in_err-have_room-clause-played : goal.returns-in_err-have_room-clause-played
+returns-in_err-have_room-clause-played c =
+    let done = c.in_ok-first.ensures in
+    let full = crowded c.args.self.now _ (vec_items c.in_ok-first.letters) _ _ done.2.within done.2.state c.deref.ensures.value in
+    let is_err = err_from_is_err_and c.from_residual-in_err-have_room.result c.from_residual-in_err-have_room.ensures.1 in
+    let many = c.in_err-have_room.ensures in
+    rw (is_err.1, is_err.2, many.0) ((done.0, done.1, omega (arith, full, many.1)), refl)

@@ -1,19 +1,22 @@
-use Rattle.std.proofs.Common.{◌≡◌, ◌+◌, length, vec_items, sym, ap, ◌∙◌, subst}
-use Rattle.links.specs.Local.{silent}
+-- Each network is made by its number, up to the first that is refused.
+use Rattle.std.proofs.Common.{◌<◌, length, ⊎_elim, rules}
+use Rattle.std.proofs.lemmas.Result.{IfOk-weaker, IfErr-weaker, MatchResult-from_both}
+use Rattle.std.specs.Result.{MatchResult}
+use Rattle.links.specs.Made.{IfTooLarge}
 use Rattle.simulation.specs.Beginning.{Fresh}
-use Rattle.mail.specs.Whole.{homes_of, local, number_of}
-use Rattle.simulation.proofs.Fresh.{placed_more}
+use Rattle.simulation.proofs.Counted.{counted}
+use Rattle.simulation.proofs.Fresh.{all_fresh, why_at}
 use Rattle.simulation.proofs.simulation.making.networks.Goals as goal
 
-pub loop-number-preserved : goal.loop-number-preserved
-loop-number-preserved c =
-    let v = c.loop-number.networks in
-    let inv = c.loop-number.invariant in
-    let new = subst (Fresh c.loop-number.number c.args.homes.now) c.in-Some.is c.in_ok-network.ensures in
-    let pushed = c.in_ok-push.ensures.items in
-    let long : length (vec_items v) ≡ c.loop-number.number = sym v.ok.0 ∙ inv.0 in (
-      c.in_ok-push.ensures.len ∙ ap (λ m. m + 1) inv.0,
-      placed_more number_of (vec_items v) _ c.in-Some.network c.loop-number.number (λ i. i) pushed long new.0 inv.1,
-      placed_more homes_of (vec_items v) _ c.in-Some.network c.loop-number.number (λ i. c.args.homes.now) pushed long new.1 inv.2,
-      placed_more local (vec_items v) _ c.in-Some.network c.loop-number.number (λ i. silent) pushed long new.2 inv.3,
-    )
+pub returns : goal.returns
+returns c =
+    let homes = c.args.homes.now in
+    let made = counted _ _ (λ k y. MatchResult y (Fresh k homes) (IfTooLarge (256 < length homes))) _ c.args.count c.map.ensures.runs (λ a r f. search rules) (λ k y f. search rules) in
+    let all = IfOk-weaker c.try_collect.result _ _ (λ v run.
+    let each = made run.0 run.1 in
+    let got = run.3 (λ xs was x is a b. search rules) in
+    all_fresh homes _ run.0.at each.1 v got.0 run.0.len c.args.count got.1 got.2 (each.0 run.2) got.3) c.try_collect.ensures.runs in
+    let first = IfErr-weaker c.try_collect.result _ _ (λ e why. ⊎_elim
+    (λ full. search rules)
+    (λ run. why_at homes _ run.0.at (made run.0 run.1).1 run.2.0 e run.2.2) why) c.try_collect.ensures.err in
+    MatchResult-from_both c.try_collect.result _ _ all first
