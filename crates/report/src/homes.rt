@@ -24,6 +24,8 @@ pub enum HomeCause {
 #[derive(Clone, Copy, Debug)]
 pub struct Home(pub usize);
 
+// An enum of its own beside the refusal of a step: one for both, by the type of the fault, would belong to another crate, and
+// its conversions be written here all the same.
 #[derive(Debug, Drop)]
 pub enum HomeRefusal {
     // the first word with a fault

@@ -26,8 +26,9 @@ impl Simulation {
         oldest(&self.letters, from, to)
     }
 
-    // The oldest of the lowest pair that has something in flight is heard; false where nothing is in flight. Apart, since the
-    // end of `rest` is proved by hand, and a hearing too few is refused at this contract.
+    // The oldest of the lowest pair that has something in flight is heard; false where nothing is in flight. A bool, since
+    // `rest` loops for as long as something was heard; apart, since the end of `rest` is proved by hand, and a hearing too few
+    // is refused at this contract.
     fn hear_next(&mut self) -> Result<bool, AllocError>
         ensures world { world_of self.new ≡ world_of self.old }
         ensures heard { MatchResult result (λ more. MatchBool more (NextHeard (world_of self.old) (state_of self.old) (state_of self.new)) (Still (state_of self.old) × (self.new ≡ self.old))) (λ _. self.new ≡ self.old) }
