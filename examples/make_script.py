@@ -169,4 +169,5 @@ def sixteen():
         s.check()
     s.write('sixteen')
 
-a(); g(); sixteen()
+if __name__ == '__main__':
+    a(); g(); sixteen()

@@ -71,7 +71,7 @@ below_most n hi Peer a b = omega arith
 below_most n hi Provider a b = omega arith
 
 -- the best of the candidates of networks below n is decided by those
-same_best : (first : Order) (r q : ℕ → Said) (n : ℕ) → ((j : ℕ) → j < n → r j ≡ q j) → best first r n ≡ best first q n
+pub same_best : (first : Order) (r q : ℕ → Said) (n : ℕ) → ((j : ℕ) → j < n → r j ≡ q j) → best first r n ≡ best first q n
 same_best first r q zero h = refl
 same_best first r q (suc n) h = λ x. better first (same_best first r q n (λ j l. h j (omega arith)) x) n (h n (omega arith) x)
 

@@ -1,5 +1,5 @@
 pub mod Tables
-mod Orders
+pub mod Orders
 pub mod Chains
 pub mod Reach
 pub mod Gathered

@@ -1,4 +1,1 @@
 mod Lines
-mod Numbered
-mod Places
-mod Telling

@@ -7,7 +7,7 @@ use Rattle.links.specs.Local.{choice, gather}
 use Rattle.links.specs.Run.{State}
 use Rattle.links.specs.World.{World}
 use Rattle.simulation.specs.Shown.{goes_by}
-use Rattle.report.specs.Routes.{route_words}
+use Rattle.routes.specs.Lines.{route_words}
 
 -- a block that has a home is one that there is
 pub there : (b n x home : ℕ) (r : Option ℕ) → r ≡ (if nat_lt b n then Some x else None) → r ≡ Some home → b < n

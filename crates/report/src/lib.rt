@@ -1,14 +1,10 @@
-// The text that the programs print of a rehearsal, and the words that it starts with.
+// A rehearsal as the programs print it: commands that are played, and what is told.
 #![tactic(auto)]
 
-mod homes;
-mod laws;
 mod playing;
-mod routes;
+mod shown;
 mod steps;
 
-pub use homes::{Home, HomeCause, HomeRefusal, read_homes};
-pub use laws::lines_tell_routes;
 pub use playing::play;
-pub use routes::{RouteLine, Shown};
+pub use shown::Shown;
 pub use steps::StepFault;

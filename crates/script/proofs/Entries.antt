@@ -1,13 +1,11 @@
 -- All that a script says, line by line. Assumes nothing.
 use Rattle.std.proofs.Common.{◌≡◌, ℕ, ◌+◌, ◌<◌, Bool, true, false, cond, List, [], ◌∷◌, ◌++◌, length, drop, Some, None, Ok, Err, Option, Result, sym, refl, ap, ◌∙◌, arith, length-append}
 use Rattle.script.specs.declared.cause.Cause.{Cause}
-use Rattle.script.specs.declared.command.Command.{Command}
-use Rattle.script.specs.declared.command.Limits.{Limits}
 use Rattle.script.specs.Laws.{LineByLine, NextByNext}
 use Rattle.script.specs.Meaning.{read_line}
-use Rattle.script.specs.Next.{Ahead, ahead, ahead_in, reached}
+use Rattle.script.specs.Next.{Ahead, Reader, ahead_by, ahead_in, reached}
 use Rattle.script.specs.Parts.{Feedless, Line, before, from, is_feed, lines, longer}
-use Rattle.script.specs.Whole.{Entry, entries, entries_in, listed, noted}
+use Rattle.script.specs.Whole.{Entry, entries_by, entries_in, listed_by, noted}
 use Rattle.script.proofs.Cuts.{before_stop, before_on, from_on}
 use Rattle.script.proofs.Steps.{beyond, first_line}
 
@@ -30,28 +28,31 @@ unfolding lines
 follows [] = tt
 follows (b ∷ bs) = follows_on (is_feed b) b bs (follows bs)
 
-module _ (limits : Limits) where
-  noted_reached : (r : Result (Option Command) Cause) (k : ℕ) (after : List ℕ) (es : List Entry) (a : Ahead) → es ≡ listed limits a → es ≡ entries limits k after → noted r k es ≡ listed limits (reached r k after a)
+module _ {T : Type 0} (reads : Reader T) where
+  noted_reached : (r : Result (Option T) Cause) (k : ℕ) (after : List ℕ) (es : List (Entry T)) (a : Ahead T) → es ≡ listed_by reads a → es ≡ entries_by reads k after → noted r k es ≡ listed_by reads (reached r k after a)
   noted_reached (Ok None) k after es a h e = h
   noted_reached (Ok (Some c)) k after es a h e = ap (λ l. record { line = k; says = Ok c } ∷ l) e
   noted_reached (Err c) k after es a h e = ap (λ l. record { line = k; says = Err c } ∷ l) e
 
-  next_in : (k : ℕ) (ls : List Line) → Follows ls → entries_in limits k ls ≡ listed limits (ahead_in limits k ls)
+  next_in : (k : ℕ) (ls : List Line) → Follows ls → entries_in reads k ls ≡ listed_by reads (ahead_in reads k ls)
   unfolding ahead_in entries_in lines
   next_in k [] h = refl
-  next_in k (l ∷ ls) h = noted_reached (read_line limits l.text) (k + 1) l.after _ _ (next_in (k + 1) ls h.1) (ap (entries_in limits (k + 1)) (sym h.0))
+  next_in k (l ∷ ls) h = noted_reached (reads l.text) (k + 1) l.after _ _ (next_in (k + 1) ls h.1) (ap (entries_in reads (k + 1)) (sym h.0))
+
+  pub next_by_next_of : (k : ℕ) (bs : List ℕ) → entries_by reads k bs ≡ listed_by reads (ahead_by reads k bs)
+  next_by_next_of k bs = next_in k (lines bs) (follows bs)
+
+  -- the same of what is known to come next
+  pub entries_next : (k : ℕ) (bs : List ℕ) (a : Ahead T) → ahead_by reads k bs ≡ a → entries_by reads k bs ≡ listed_by reads a
+  entries_next k bs a e = next_by_next_of k bs ∙ ap (listed_by reads) e
+
+  pub entries_more : (k : ℕ) (bs : List ℕ) → 0 < length bs → entries_by reads k bs ≡ noted (reads (before is_feed bs)) (k + 1) (entries_by reads (k + 1) (beyond bs))
+  unfolding entries_in
+  entries_more k [] h = absurd (omega arith)
+  entries_more k (b ∷ bs) h = ap (entries_in reads k) (first_line b bs)
 
 pub next_by_next : NextByNext
-next_by_next limits k bs = next_in limits k (lines bs) (follows bs)
-
--- the same of what is known to come next
-pub entries_next : (limits : Limits) (k : ℕ) (bs : List ℕ) (a : Ahead) → ahead limits k bs ≡ a → entries limits k bs ≡ listed limits a
-entries_next limits k bs a e = next_by_next limits k bs ∙ ap (listed limits) e
-
-pub entries_more : (limits : Limits) (k : ℕ) (bs : List ℕ) → 0 < length bs → entries limits k bs ≡ noted (read_line limits (before is_feed bs)) (k + 1) (entries limits (k + 1) (beyond bs))
-unfolding entries_in
-entries_more limits k [] h = absurd (omega arith)
-entries_more limits k (b ∷ bs) h = ap (entries_in limits k) (first_line b bs)
+next_by_next limits = next_by_next_of (read_line limits)
 
 abbrev ByFeed : List ℕ → List ℕ → Type 0
 ByFeed line script = (before is_feed (line ++ (10 ∷ script)) ≡ line) × (from is_feed (line ++ (10 ∷ script)) ≡ 10 ∷ script)
@@ -71,8 +72,11 @@ unfolding before from
 by_feed [] script h = (refl, refl)
 by_feed (b ∷ bs) script h = by_feed_on (is_feed b) b bs script refl h (by_feed bs script)
 
-pub line_by_line : LineByLine
-line_by_line limits k line script h =
+pub line_by_line_of : {T : Type 0} (reads : Reader T) (k : ℕ) (line script : List ℕ) → Feedless line → entries_by reads k (line ++ (10 ∷ script)) ≡ noted (reads line) (k + 1) (entries_by reads (k + 1) script)
+line_by_line_of reads k line script h =
     let cut = by_feed line script h in
-    entries_more limits k (line ++ (10 ∷ script)) (omega (arith, length-append line (10 ∷ script))) ∙
-    (λ i. noted (read_line limits (cut.0 i)) (k + 1) (entries limits (k + 1) (drop 1 (cut.1 i))))
+    entries_more reads k (line ++ (10 ∷ script)) (omega (arith, length-append line (10 ∷ script))) ∙
+    (λ i. noted (reads (cut.0 i)) (k + 1) (entries_by reads (k + 1) (drop 1 (cut.1 i))))
+
+pub line_by_line : LineByLine
+line_by_line limits = line_by_line_of (read_line limits)

@@ -6,3 +6,4 @@ pub mod Entries
 pub mod Comments
 pub mod Back
 pub mod Bounds
+pub mod Turned

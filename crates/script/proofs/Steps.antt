@@ -2,10 +2,7 @@
 use Rattle.std.proofs.Common.{◌≡◌, ℕ, ◌+◌, ◌<◌, ◌≤◌, Bool, true, false, List, [], ◌∷◌, length, drop, None, Ok, Option, Result, sym, refl, ap, ◌∙◌, arith, length-drop}
 use Rattle.std.proofs.lemmas.Bool.{cond-true, cond-false}
 use Rattle.script.specs.declared.cause.Cause.{Cause}
-use Rattle.script.specs.declared.command.Command.{Command}
-use Rattle.script.specs.declared.command.Limits.{Limits}
-use Rattle.script.specs.Meaning.{read_line}
-use Rattle.script.specs.Next.{ahead, ahead_in, reached}
+use Rattle.script.specs.Next.{Reader, ahead_by, ahead_in, reached}
 use Rattle.script.specs.Parts.{before, from, is_feed, lines, longer}
 use Rattle.script.proofs.Cuts.{before_stop, before_on, from_stop, from_on}
 
@@ -56,17 +53,18 @@ pub first_line : (b : ℕ) (bs : List ℕ) → FirstLine (b ∷ bs)
 first_line b [] = line_on (is_feed b) b [] refl (only_one b)
 first_line b (d ∷ ds) = line_on (is_feed b) b (d ∷ ds) refl (on_longer b (d ∷ ds) (first_line d ds))
 
-pub ahead_more : (limits : Limits) (k : ℕ) (bs : List ℕ) → 0 < length bs → ahead limits k bs ≡ reached (read_line limits (before is_feed bs)) (k + 1) (beyond bs) (ahead limits (k + 1) (beyond bs))
-unfolding ahead_in
-ahead_more limits k [] h = absurd (omega arith)
-ahead_more limits k (b ∷ bs) h = ap (ahead_in limits k) (first_line b bs)
+module _ {T : Type 0} (reads : Reader T) where
+  pub ahead_more : (k : ℕ) (bs : List ℕ) → 0 < length bs → ahead_by reads k bs ≡ reached (reads (before is_feed bs)) (k + 1) (beyond bs) (ahead_by reads (k + 1) (beyond bs))
+  unfolding ahead_in
+  ahead_more k [] h = absurd (omega arith)
+  ahead_more k (b ∷ bs) h = ap (ahead_in reads k) (first_line b bs)
 
-pub ahead_none : (limits : Limits) (k : ℕ) (bs : List ℕ) → length bs ≡ 0 → ahead limits k bs ≡ record { answer = Ok None; line = k; left = bs }
-unfolding ahead_in lines
-ahead_none limits k [] h = refl
-ahead_none limits k (b ∷ bs) h = absurd (omega arith)
+  pub ahead_none : (k : ℕ) (bs : List ℕ) → length bs ≡ 0 → ahead_by reads k bs ≡ record { answer = Ok None; line = k; left = bs }
+  unfolding ahead_in lines
+  ahead_none k [] h = refl
+  ahead_none k (b ∷ bs) h = absurd (omega arith)
 
--- one line is read, and this is its answer
-pub ahead_read : (limits : Limits) (k k' : ℕ) (bs text left : List ℕ) (r : Result (Option Command) Cause) → 0 < length bs → text ≡ before is_feed bs → left ≡ beyond bs → k' ≡ k + 1 → r ≡ read_line limits text → ahead limits k bs ≡ reached r k' left (ahead limits k' left)
-ahead_read limits k k' bs text left r h t l e a =
-    ahead_more limits k bs h ∙ (λ i. reached (sym (a ∙ ap (read_line limits) t) i) (sym e i) (sym l i) (ahead limits (sym e i) (sym l i)))
+  -- one line is read, and this is its answer
+  pub ahead_read : (k k' : ℕ) (bs text left : List ℕ) (r : Result (Option T) Cause) → 0 < length bs → text ≡ before is_feed bs → left ≡ beyond bs → k' ≡ k + 1 → r ≡ reads text → ahead_by reads k bs ≡ reached r k' left (ahead_by reads k' left)
+  ahead_read k k' bs text left r h t l e a =
+      ahead_more k bs h ∙ (λ i. reached (sym (a ∙ ap reads t) i) (sym e i) (sym l i) (ahead_by reads (sym e i) (sym l i)))

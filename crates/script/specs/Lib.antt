@@ -5,6 +5,7 @@ pub mod Meaning
 pub mod Next
 pub mod Whole
 pub mod Written
+pub mod Turns
 pub mod Laws
 pub mod Words
 pub mod Networks

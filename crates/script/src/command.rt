@@ -1,4 +1,6 @@
 // What a script can ask for.
+ghost use Rattle.std.specs.Prelude.{◌≡◌};
+ghost use Rattle.script.specs.Turns.{as_command};
 
 #[derive(Clone, Copy, Debug, PartialEq, Eq)]
 pub enum Command {
@@ -9,6 +11,26 @@ pub enum Command {
     Show { block: u16 },
     // everything that is in flight is heard
     Rest,
+}
+
+// The link of two networks comes up or goes down.
+#[derive(Clone, Copy, Debug, PartialEq, Eq)]
+pub struct Turn {
+    pub first: u8,
+    pub second: u8,
+    pub up: bool,
+}
+
+impl From<Turn> for Command {
+    ghost from_gives = { λ turn command. command ≡ as_command turn };
+
+    fn from(turn: Turn) -> Command {
+        Command::Turn {
+            first: turn.first,
+            second: turn.second,
+            up: turn.up,
+        }
+    }
 }
 
 // The numbers of networks are below `networks`, those of blocks below `blocks`.

@@ -5,4 +5,4 @@ mod Compared
 pub mod Lengths
 pub mod Past
 pub mod Ranks
-mod Written
+pub mod Written

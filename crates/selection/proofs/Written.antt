@@ -11,7 +11,7 @@ use Rattle.selection.specs.Rows.{Wide, with_row}
 use Rattle.selection.specs.declared.table.row.Row.{Row}
 
 -- the place q of a list after a write to p
-slice_get-set : {X : Type 0} (xs : List X) (p q : ℕ) (x : X) → p < length xs → slice_get (set xs p x) q ≡ cond (eqb q p) (Some x) (slice_get xs q)
+pub slice_get-set : {X : Type 0} (xs : List X) (p q : ℕ) (x : X) → p < length xs → slice_get (set xs p x) q ≡ cond (eqb q p) (Some x) (slice_get xs q)
 slice_get-set [] p q x h = absurd (omega arith)
 slice_get-set (y ∷ xs) zero zero x h = refl
 slice_get-set (y ∷ xs) zero (suc q) x h = sym (cond-false (eqb (suc q) 0) (Some x) (slice_get xs q) (grind (arith, nat_tests)))

@@ -1,103 +1,54 @@
-// settle TIES: reads a ties file, and says whether it is sound.
+// settle TIES: says whether ties are sound. settle TIES LINES HOME...: prints the stable routing for each home's block.
 #![tactic(auto)]
 
-use relations::MOST;
-use std::alloc::AllocError;
-use std::error::Error;
-use std::io::Read;
+use settling::{Failure, check, perform, words};
 use std::process::ExitCode;
-use std::{env, fmt, fs, io};
-use ties::{Refusal, Summary};
 
-const USAGE: &str = "usage: settle TIES   (--help says more)";
+const USAGE: &str = "usage: settle TIES [LINES HOME...]   (--help says more)";
 
 const HELP: &str = "usage: settle TIES
+       settle TIES LINES HOME...
 Says whether a ties file is sound; where it is not, what is wrong and where.
-TIES is a file, or - for standard input.
+With LINES and homes it prints what every network goes by for each block, once
+all have told and heard everything. The first HOME is the home of block 0, and
+so on. TIES and LINES are files; one of them may be -, standard input.
 
 A ties file is bytes: 16, n, the number of ties (high byte first), and for each
 two networks and a kind: 1, the first is the second's customer; 2, peers. Ties
 stand in rising order of the first and then the second number; of peers the
 lower number stands first. There are 1 to 64 networks, numbered from 0.
 
-A fault has a number and a place, the head, tie K from 0 or the end:
-   1  unknown kind; bad length: cut short, or bytes past the end
+LINES is text with one command to a line; what follows # is a comment. At first
+every link is down.
+  turn I J up     the link of I and J comes up
+  turn I J down   it goes down
+
+A network goes by its own home, by a neighbour over a path, or by nothing:
+  unpaid          some way of links that are up leads to the home
+  cut off         none does
+
+A fault has a number and a place: ties at head, tie K from 0 or end; home K from
+0; line K from 1.
+   1  unknown kind; bad length: cut short, or bytes past the end; in LINES a
+      word that says nothing there; a word that is no number
    2  a network not below n; n of 0 or above 64
    3  ties not in rising order; two ties of one pair; peers with the higher
-      number first; a network tied to itself
+      number first; a network tied to itself; more than 256 blocks
    5  a ring of customers
+  10  no link between these networks
 ";
 
-// What ends the program with status 1, and the line that tells it: of standard input, or of a write, that fails
-// another line than in the programs that play scripts, so that it shares neither this nor `load` with them. By hand, and not
-// by `thiserror`, which would be one crate more for six lines.
-#[derive(Debug, Drop)]
-enum Failure {
-    // how the program is to be called
-    Usage,
-    Unreadable { path: String, error: io::Error },
-    Ties(Refusal),
-    // no memory, or nothing could be written
-    Silent,
-}
-
-impl fmt::Display for Failure {
-    fn fmt<W: fmt::Write>(&self, f: &mut fmt::Formatter<W>) -> fmt::Result {
-        match self {
-            Failure::Usage => write!(f, "{USAGE}"),
-            Failure::Unreadable { path, error } => write!(f, "{path}: {error}"),
-            Failure::Ties(refusal) => write!(f, "ties: {refusal}"),
-            Failure::Silent => write!(f, "out of memory, or the output is closed"),
-        }
-    }
-}
-
-impl Error for Failure {}
-
-impl From<io::Error> for Failure {
-    fn from(_e: io::Error) -> Failure {
-        Failure::Silent
-    }
-}
-
-impl From<AllocError> for Failure {
-    fn from(_e: AllocError) -> Failure {
-        Failure::Silent
-    }
-}
-
-// The bytes of a file, or of standard input where the path is `-`.
-fn load(rt: &HostRuntime, path: &str) -> Result<Vec<u8>, Failure> {
-    let heap = rt.alloc();
-    if path == "-" {
-        let mut bytes = Vec::new(heap);
-        rt.stdin().read_to_end(&mut bytes)?;
-        return Ok(bytes);
-    }
-    fs::read(rt, path).try_map_err(|error| {
-        let path = String::from_str(heap, path)?;
-        Ok(Failure::Unreadable { path, error })
-    })
-}
-
-fn check(rt: &HostRuntime, path: &str) -> Result<(), Failure> {
-    let bytes = load(rt, path)?;
-    let relations = ties::read(bytes.as_slice(), MOST, rt.alloc()).map_err(Failure::Ties)?;
-    rt.println(Summary(&relations))?;
-    Ok(())
-}
-
 fn run(rt: &HostRuntime) -> Result<(), Failure> {
-    let mut args = env::args(rt)?.skip(1);
-    let path = args.next().ok_or(Failure::Usage)?;
-    if args.next().is_some() {
-        return Err(Failure::Usage);
+    let words = words(rt)?;
+    match words.as_slice() {
+        [word] if word.as_str() == "--help" => Ok(rt.print(HELP)?),
+        [ties] => check(rt, ties.as_str()),
+        [ties, lines, homes @ ..]
+            if !homes.is_empty() && (ties.as_str() != "-" || lines.as_str() != "-") => {
+            perform(rt, ties.as_str(), lines.as_str(), homes)
+        }
+        _ => Err(Failure::Usage(USAGE)),
     }
-    if path.as_str() == "--help" {
-        rt.print(HELP)?;
-        return Ok(());
-    }
-    check(rt, path.as_str())
 }
 
 // As in `rehearse`: one function for both, generic over the failure and with the program's name, would be as long.

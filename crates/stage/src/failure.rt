@@ -1,5 +1,6 @@
 // What ends a program with status 1, and the line that tells it.
-use report::{HomeRefusal, StepFault};
+use homes::HomeRefusal;
+use report::StepFault;
 use script::Line;
 use simulation::Unmade;
 use std::alloc::{AllocError, Global};

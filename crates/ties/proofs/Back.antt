@@ -20,7 +20,7 @@ encoded_reads most n rel a allowed =
     (encoded_faultless n rel a.both a.apart a.within most a.some a.few allowed, encoded_says n rel a.both a.apart a.within)
 
 -- a file with no fault has no first fault
-no_fault : (most : ℕ) (bs : List ℕ) (p : Place) (c : Cause) → Faultless most bs → FirstFault most bs p c → ⊥
+pub no_fault : (most : ℕ) (bs : List ℕ) (p : Place) (c : Cause) → Faultless most bs → FirstFault most bs p c → ⊥
 no_fault most bs Head c f e = none-some c (sym f.head ∙ e)
 no_fault most bs (Tie k) c f e = none-some c (sym (f.each k e.1.1) ∙ e.1.2)
 no_fault most bs End c f e = none-some c (sym f.end ∙ e.2)

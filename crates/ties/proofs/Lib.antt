@@ -2,4 +2,4 @@ mod Progress
 mod Decoded
 mod Encoded
 mod Answered
-mod Back
+pub mod Back

@@ -1,8 +1,10 @@
 // Taking lines off a script.
 ghost use Rattle.std.specs.Prelude.{◌≡◌, ◌+◌, ◌<◌, length, drop};
-ghost use Rattle.script.specs.Next.{left_of, line_of};
+ghost use Rattle.std.specs.Fn.{FnReturnsAt};
+ghost use Rattle.script.specs.Next.{Falls, Reader, Reads, ahead_by, left_of, line_of};
 ghost use Rattle.script.specs.Parts.{before, from, is_feed};
 
+use crate::cause::Cause;
 use crate::cut::cut;
 use crate::script::Script;
 
@@ -27,5 +29,23 @@ impl<'a> Script<'a> {
             line: self.line + 1,
         };
         text
+    }
+
+    // Takes lines up to the next in which a reader finds something, or a fault. At the end there is none.
+    pub(crate) fn next_by<T: Drop, F: Fn(&[u8]) -> Result<Option<T>, Cause>>(
+        &mut self,
+        read: F,
+    ) -> Result<Option<T>, Cause>
+        requires { F.IsAlwaysCallable read }
+        ensures ahead { (reads : Reader T) → Reads (FnReturnsAt F.Fn read) reads → ahead_by reads (line_of self.old) (left_of self.old) ≡ record { answer = result; line = line_of self.new; left = left_of self.new } }
+        ensures falls { Falls result (length (left_of self.old)) (length (left_of self.new)) }
+    {
+        while !self.rest.is_empty() {
+            let line = self.take_line();
+            if let Some(found) = read(line)? {
+                return Ok(Some(found));
+            }
+        }
+        Ok(None)
     }
 }

@@ -1,0 +1,3 @@
+mod Lines
+mod Telling
+mod Next

@@ -1,0 +1,13 @@
+-- The lines of the networks, one line on. Assumes nothing.
+use Rattle.std.proofs.Common.{◌≡◌, ℕ, suc, ◌+◌, Bool, List, ◌++◌, ap, ◌∙◌, sym, arith}
+use Rattle.relations.specs.Lists.{gather}
+use Rattle.selection.specs.Choosing.{Choice}
+use Rattle.selection.specs.Sets.{member}
+use Rattle.stable.specs.Settling.{goes_by}
+use Rattle.stable.specs.declared.routing.Routing.{Routing}
+use Rattle.account.specs.Words.{line_words, routing_line}
+
+pub next_line : (x : Routing) (k i : ℕ) (m : Choice) (r : Bool) → i ≡ k → m ≡ goes_by x k → r ≡ member x.reaching k → gather (routing_line x) k ++ line_words i m r ≡ gather (routing_line x) (k + 1)
+next_line x k i m r is e f =
+    let one : k + 1 ≡ suc k = omega arith in
+    ap (λ j. gather (routing_line x) k ++ line_words j m r) is ∙ ap (λ c. gather (routing_line x) k ++ line_words k c r) e ∙ ap (λ b. gather (routing_line x) k ++ line_words k (goes_by x k) b) f ∙ sym (ap (gather (routing_line x)) one)

@@ -1,0 +1,7 @@
+mod Lists
+mod Ties
+mod Runs
+mod Refusing
+mod Answered
+mod Arriving
+mod Rows

@@ -1,0 +1,4 @@
+pub mod Settings
+pub mod Plays
+pub mod Rows
+pub mod Table

@@ -1,0 +1,2 @@
+mod Last
+mod Heads

@@ -1,5 +1,0 @@
-use Rattle.report.proofs.Telling.{lines_tell}
-use Rattle.report.proofs.laws.lines_tell_routes.Goals as goal
-
-pub returns : goal.returns
-returns c = lines_tell

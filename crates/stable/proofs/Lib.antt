@@ -1,0 +1,7 @@
+mod Calm
+mod Links
+mod Looks
+mod Ranges
+mod Growth
+mod Simple
+mod Settles

@@ -1,0 +1,4 @@
+pub mod Linked
+pub mod Looking
+pub mod Settling
+pub mod Ways
