@@ -18,7 +18,3 @@ all_or_not n m false P e h = λ all. h.2 (all h.0 (omega (arith, e, h.1)))
 pub some_number : (n m : ℕ) (r : Bool) (Yes No : ℕ → Type 0) → n ≡ m → MatchBool r ((k : ℕ) × (k < length (range_with_len 0 n)) × HoldsAt Yes (range_with_len 0 n) k) (AllWithin No (range_with_len 0 n) 0 (length (range_with_len 0 n))) → MatchBool r ((k : ℕ) × (k < m) × Yes k) ((k : ℕ) → k < m → No k)
 some_number n m false Yes No e h = λ k a. let l = length-range_with_len 0 n in subst No (at n k (omega arith)) (h k 0 (omega arith) (omega (arith, l)))
 some_number n m true Yes No e h = let l = length-range_with_len 0 n in let i : h.0 < n = omega (arith, l, h.1) in (h.0, omega (arith, i), subst Yes (at n h.0 i) (h.2 0))
-
-pub none_or : (m : ℕ) (r : Bool) (Yes No : ℕ → Type 0) → MatchBool r ((k : ℕ) × (k < m) × Yes k) ((k : ℕ) → k < m → No k) → MatchBool r (Unit {0}) ((k : ℕ) → k < m → No k)
-none_or m true Yes No h = tt
-none_or m false Yes No h = h

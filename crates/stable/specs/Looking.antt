@@ -54,6 +54,6 @@ SeesNone w changed i = (j : ℕ) → j < w.n → (changed j && related (w.rel i 
 abbrev pub Untouched : World → (ℕ → Bool) → ℕ → Type 0
 Untouched w changed i = (changed i ≡ false) × SeesNone w changed i
 
--- a network that a set does not touch shows what it goes by when it looks
-abbrev pub Calm : World → Links → (ℕ → Bool) → Showing → Type 0
-Calm w links changed rows = (i : ℕ) → i < w.n → Untouched w changed i → rows i ≡ shown i (view w links rows i)
+-- a network that is not in a set shows what it goes by when it looks
+abbrev pub Still : World → Links → (ℕ → Bool) → Showing → Type 0
+Still w links within rows = (i : ℕ) → i < w.n → within i ≡ false → rows i ≡ shown i (view w links rows i)

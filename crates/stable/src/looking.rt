@@ -1,12 +1,13 @@
 // Networks that look at what the others show, all at once, until nothing is new.
-ghost use Rattle.std.specs.Prelude.{◌≡◌, ℕ, ◌+◌, ◌*◌, ◌<◌, ◌&&◌, true, false, IfOk, MatchBool, nat_lt};
+ghost use Rattle.std.specs.Prelude.{◌≡◌, ℕ, ◌+◌, ◌*◌, ◌<◌, ◌&&◌, true, false, IfOk, MatchBool, MatchOption, nat_lt};
+ghost use Rattle.relations.specs.Between.{related};
 ghost use Rattle.relations.specs.Sound.{networks as networks_of, relation as relation_of};
 ghost use Rattle.selection.specs.Choosing.{meaning};
 ghost use Rattle.selection.specs.Paths.{count, row};
 ghost use Rattle.selection.specs.Rows.{with_row};
 ghost use Rattle.selection.specs.Sets.{member};
 ghost use Rattle.stable.specs.Linked.{up};
-ghost use Rattle.stable.specs.Looking.{Calm, Same, SeesNone, Shows, Untouched, shown as shown_by, shows as shows_by, tellers as tellers_of, view as view_of, world};
+ghost use Rattle.stable.specs.Looking.{Same, Shows, Still, Untouched, shown as shown_by, shows as shows_by, tellers as tellers_of, view as view_of, world};
 
 use crate::linked::LinkSet;
 use advertisement::may_tell;
@@ -93,31 +94,50 @@ impl Networks<'_> {
         }
     }
 
-    // Whether some network of the set is related to a network.
-    fn sees(self, changed: NetworkSet, me: u8) -> bool
-        ensures { MatchBool result (Unit {0}) (SeesNone (world self.entry.relations.now self.entry.home) (member changed) me) }
+    // Adds a network to a set if it is related to another.
+    fn touch_one(self, other: u8, touched: &mut NetworkSet, me: u8)
+        requires { me < 64 }
+        ensures kept { (k : ℕ) → member touched.old k ≡ true → member touched.new k ≡ true }
+        ensures added { related (relation_of self.entry.relations.now me other) ≡ true → member touched.new me ≡ true }
     {
-        (0..self.relations.networks()).any(|other| {
-            changed.contains(other) && self.relations.relation(me, other).is_related()
-        })
+        if !touched.contains(me) && self.relations.relation(me, other).is_related() {
+            touched.insert(me);
+        }
     }
 
-    // Whether a network is in the set, or one that it is related to.
-    fn is_touched(self, changed: NetworkSet, me: u8) -> bool
-        ensures { MatchBool result (Unit {0}) (Untouched (world self.entry.relations.now self.entry.home) (member changed) me) }
+    // Adds all that are related to a network.
+    fn touch(self, other: u8, touched: &mut NetworkSet)
+        ensures kept { (k : ℕ) → member touched.old k ≡ true → member touched.new k ≡ true }
+        ensures added { (k : ℕ) → k < networks_of self.entry.relations.now → related (relation_of self.entry.relations.now k other) ≡ true → member touched.new k ≡ true }
     {
-        changed.contains(me) || self.sees(changed, me)
+        for me in 0..self.relations.networks() {
+            self.touch_one(other, touched, me);
+        }
     }
 
-    // Network `me` looks, or shows what it showed, if what it sees has not changed.
-    fn look_if_touched(self, changed: NetworkSet, shown: &PathTable, next: &mut PathTable, me: u8)
+    // The networks of a set, and all that are related to one of it.
+    #[tactic(auto, using(crate::proofs::Calm::from_touched))]
+    fn touched(self, changed: NetworkSet) -> NetworkSet
+        ensures { (i : ℕ) → i < networks_of self.entry.relations.now → member result i ≡ false → Untouched (world self.entry.relations.now self.entry.home) (member changed) i }
+    {
+        let mut touched = changed;
+        for other in 0..self.relations.networks() {
+            if changed.contains(other) {
+                self.touch(other, &mut touched);
+            }
+        }
+        touched
+    }
+
+    // Network `me` looks, or shows what it showed, if it is not touched.
+    fn look_if_touched(self, touched: NetworkSet, shown: &PathTable, next: &mut PathTable, me: u8)
         requires there { count next.old ≡ 1 }
         requires me { me < networks_of self.relations.now }
-        requires calm { Calm (world self.relations.now self.home) (up self.links.now) (member changed) (row shown.now 0) }
+        requires still { Still (world self.relations.now self.home) (up self.links.now) (member touched) (row shown.now 0) }
         ensures same { count next.new ≡ count next.old }
         ensures after { (b j : ℕ) → row next.new b j ≡ with_row (row next.old) 0 me (shown_by me (view_of (world self.entry.relations.now self.entry.home) (up self.entry.links.now) (row shown.now 0) me)) b j }
     {
-        if self.is_touched(changed, me) {
+        if touched.contains(me) {
             self.look(shown, next, me);
         } else {
             show_again(shown, next, me);
@@ -125,28 +145,30 @@ impl Networks<'_> {
     }
 
     // Every network looks at what the others show, all at once.
-    fn look_all(self, changed: NetworkSet, shown: &PathTable, next: &mut PathTable)
+    fn look_all(self, touched: NetworkSet, shown: &PathTable, next: &mut PathTable)
         requires there { count next.old ≡ 1 }
-        requires calm { Calm (world self.relations.now self.home) (up self.links.now) (member changed) (row shown.now 0) }
+        requires still { Still (world self.relations.now self.home) (up self.links.now) (member touched) (row shown.now 0) }
         ensures same { count next.new ≡ count next.old }
         ensures after { (j : ℕ) → j < networks_of self.entry.relations.now → row next.new 0 j ≡ shown_by j (view_of (world self.entry.relations.now self.entry.home) (up self.entry.links.now) (row shown.now 0) j) }
     {
         for me in 0..self.relations.networks() {
-            self.look_if_touched(changed, shown, next, me);
+            self.look_if_touched(touched, shown, next, me);
         }
     }
 
-    // The networks that do not show the same in both tables.
-    fn changed(self, shown: &PathTable, next: &PathTable) -> NetworkSet
-        ensures { (j : ℕ) → j < networks_of self.entry.relations.now → member result j ≡ false → row shown.now 0 j ≡ row next.now 0 j }
+    // The networks that do not show the same in both tables; none if all do.
+    fn changed(self, shown: &PathTable, next: &PathTable) -> Option<NetworkSet>
+        ensures { MatchOption result (Same (networks_of self.entry.relations.now) (row shown.now 0) (row next.now 0)) (λ set. (j : ℕ) → j < networks_of self.entry.relations.now → member set j ≡ false → row shown.now 0 j ≡ row next.now 0 j) }
     {
         let mut changed = NetworkSet::none();
+        let mut same = true;
         for me in 0..self.relations.networks() {
             if differs(shown, next, me) {
                 changed.insert(me);
+                same = false;
             }
         }
-        changed
+        (!same).then_some(changed)
     }
 
     // Every network that there is.
@@ -160,31 +182,24 @@ impl Networks<'_> {
         all
     }
 
-    // Whether every network shows the same in both tables.
-    fn is_same(self, shown: &PathTable, next: &PathTable) -> bool
-        ensures { MatchBool result (Same (networks_of self.entry.relations.now) (row shown.now 0) (row next.now 0)) (Same (networks_of self.entry.relations.now) (row shown.now 0) (row next.now 0) → ⊥) }
-    {
-        (0..self.relations.networks()).all(|me| shown.path(0, me) == next.path(0, me))
-    }
-
-    // Every network looks, and what it then shows takes the place of what it showed. Is that the same?
+    // The touched look, and what they then show takes the place of what they showed. The networks that this touches; none
+    // if all show the same.
     fn look_again(
         self,
-        changed: &mut NetworkSet,
+        touched: NetworkSet,
         shown: &mut PathTable,
         next: &mut PathTable,
-    ) -> bool
+    ) -> Option<NetworkSet>
         requires there { (count shown.old ≡ 1) × (count next.old ≡ 1) }
-        requires calm { Calm (world self.relations.now self.home) (up self.links.now) (member changed.old) (row shown.old 0) }
+        requires still { Still (world self.relations.now self.home) (up self.links.now) (member touched) (row shown.old 0) }
         ensures same { (count shown.new ≡ 1) × (count next.new ≡ 1) }
         ensures after { (j : ℕ) → j < networks_of self.entry.relations.now → row shown.new 0 j ≡ shown_by j (view_of (world self.entry.relations.now self.entry.home) (up self.entry.links.now) (row shown.old 0) j) }
-        ensures calm { Calm (world self.entry.relations.now self.entry.home) (up self.entry.links.now) (member changed.new) (row shown.new 0) }
-        ensures stays { MatchBool result (Same (networks_of self.entry.relations.now) (row shown.old 0) (row shown.new 0)) (Unit {0}) }
+        ensures answer { MatchOption result (Same (networks_of self.entry.relations.now) (row shown.old 0) (row shown.new 0)) (λ set. Still (world self.entry.relations.now self.entry.home) (up self.entry.links.now) (member set) (row shown.new 0)) }
     {
-        self.look_all(*changed, shown, next);
+        self.look_all(touched, shown, next);
         swap(shown, next);
-        *changed = self.changed(next, shown);
-        self.is_same(next, shown)
+        let changed = self.changed(next, shown)?;
+        Some(self.touched(changed))
     }
 
     // How often they look, at most.
@@ -200,11 +215,12 @@ impl Networks<'_> {
     {
         let mut shown = PathTable::new(heap, 1)?;
         let mut next = PathTable::new(heap, 1)?;
-        let mut changed = self.all();
+        let mut touched = self.all();
         for _look in 0..self.looks() {
-            if self.look_again(&mut changed, &mut shown, &mut next) {
+            let Some(then) = self.look_again(touched, &mut shown, &mut next) else {
                 return Ok(shown);
-            }
+            };
+            touched = then;
         }
         Ok(shown)
     }

@@ -11,14 +11,14 @@ use Rattle.stable.proofs.Looks.{stays, viewed}
 use Rattle.stable.proofs.looking.Networks.look_until_same.Goals as goal
 
 pub loop-look-init : goal.loop-look-init
-loop-look-init c = (λ i hi. c.in_ok-shown.ensures.1 0 i, c.in_ok-shown.ensures.0, c.in_ok-next.ensures.0, λ i hi u. absurd (false≢true (sym u.0 ∙ c.all-changed.ensures i hi)))
+loop-look-init c = (λ i hi. c.in_ok-shown.ensures.1 0 i, c.in_ok-shown.ensures.0, c.in_ok-next.ensures.0, λ i hi u. absurd (false≢true (sym u ∙ c.all-touched.ensures i hi)))
 
 pub look_again-requires : goal.look_again-requires
-look_again-requires c = record { there = (c.loop-look.invariant.1, c.loop-look.invariant.2); calm = c.loop-look.invariant.3 }
+look_again-requires c = record { there = (c.loop-look.invariant.1, c.loop-look.invariant.2); still = c.loop-look.invariant.3 }
 
-pub returns-then-look_again : goal.returns-then-look_again
-returns-then-look_again c =
-    let same = c.if-look_again.ensures.stays in
+pub returns-in_default : goal.returns-in_default
+returns-in_default c =
+    let same = c.in_default.ensures.answer in
     let h = stays (world c.args.self.relations.now c.args.self.home) (up c.args.self.links.now) c.loop-look._look (row c.loop-look.shown 0) (same_ends c.args.self.links.now) c.loop-look.invariant.0
     (λ i hi. sym (c.look_again.ensures.after i hi) ∙ sym (same i hi)) (2 * networks c.args.self.relations.now + 1)
     (omega (arith, c.loop-look-test.true, c.looks-look-end.ensures)) in
@@ -34,7 +34,7 @@ loop-look-preserved c =
           ap (λ k. shown i (looks k w links 0 i)) (sym (add-one c.loop-look._look)),
       c.look_again.ensures.same.0,
       c.look_again.ensures.same.1,
-      c.look_again.ensures.calm,
+      c.in-Some.ensures.answer,
     )
 
 pub returns : goal.returns
