@@ -1,4 +1,4 @@
-// An independent program for the job of `settle TIES LINES HOME...`, in plain Rust, written from the rules alone: to compare
+// An independent program for the job of `settle TIES BLOCKS LINES`, in plain Rust, written from the rules alone: to compare
 // answers and times. It takes its input to be right.
 use std::fmt::Write as _;
 use std::{env, fs};
@@ -37,6 +37,28 @@ fn read_ties(bytes: &[u8]) -> World {
         relation[j][i] = to_j;
     }
     World { n, relation, up: vec![vec![false; n]; n] }
+}
+
+struct Block {
+    first: [u8; 4],
+    last: [u8; 4],
+    home: usize,
+}
+
+fn read_blocks(bytes: &[u8]) -> Vec<Block> {
+    let address = |bytes: &[u8]| bytes.try_into().unwrap();
+    bytes[3..]
+        .chunks(9)
+        .map(|block| Block {
+            first: address(&block[..4]),
+            last: address(&block[4..8]),
+            home: block[8] as usize,
+        })
+        .collect()
+}
+
+fn dotted(address: [u8; 4]) -> String {
+    address.map(|byte| byte.to_string()).join(".")
 }
 
 fn read_lines(world: &mut World, text: &str) {
@@ -140,13 +162,15 @@ fn reaching(world: &World, home: usize) -> Vec<bool> {
 fn main() {
     let words: Vec<String> = env::args().skip(1).collect();
     let mut world = read_ties(&fs::read(&words[0]).unwrap());
-    read_lines(&mut world, &fs::read_to_string(&words[1]).unwrap());
+    let blocks = read_blocks(&fs::read(&words[1]).unwrap());
+    read_lines(&mut world, &fs::read_to_string(&words[2]).unwrap());
     let mut out = String::new();
-    for (block, home) in words[2..].iter().enumerate() {
-        let home: usize = home.parse().unwrap();
+    for (number, block) in blocks.iter().enumerate() {
+        let home = block.home;
         let choices = settle(&world, home);
         let reached = reaching(&world, home);
-        writeln!(out, "block {block}, home {home}").unwrap();
+        let (first, last) = (dotted(block.first), dotted(block.last));
+        writeln!(out, "block {number}, {first} to {last}, home {home}").unwrap();
         for (i, choice) in choices.iter().enumerate() {
             match choice {
                 Choice::Home => writeln!(out, "{i} home").unwrap(),

@@ -33,6 +33,7 @@ write('c.ties', 4, [(0, 1), (3, 1), (3, 2)], [])
 write('d.ties', 3, [(0, 1), (1, 2)], [(0, 2)])
 write('e.ties', 1, [], [])
 write('f.ties', 4, [(1, 2), (2, 3), (3, 1)], [])
+write('loop.ties', 4, [(0, 1), (0, 2), (1, 3), (3, 2)], [(1, 2)])
 write('sixteen.ties', 16, [(v, p) for v in range(2, 6) for p in (0, 1)] + [(v, 2 + (v + d) % 4) for v in range(6, 16) for d in (0, 1)],
       [(0, 1), (2, 3), (4, 5), (6, 7), (10, 11), (14, 15)])
 write('dense.ties', 64, every, [])

@@ -1,5 +1,5 @@
 -- The lines of the networks, one line on. Assumes nothing.
-use Rattle.std.proofs.Common.{◌≡◌, ℕ, suc, ◌+◌, Bool, List, ◌++◌, ap, ◌∙◌, sym, arith}
+use Rattle.std.proofs.Common.{◌≡◌, ℕ, suc, ◌+◌, Bool, ◌++◌, ap, ◌∙◌, sym, arith}
 use Rattle.relations.specs.Lists.{gather}
 use Rattle.selection.specs.Choosing.{Choice}
 use Rattle.selection.specs.Sets.{member}

@@ -17,9 +17,9 @@ tells_by way i local reaches is = refl
 tells_by way i (via j path) reaches is = refl
 
 pub told : SettledIsTold
-told r links block home x settled =
+told r links block x settled =
     record {
       line = routing_line x;
       whole = refl;
-      tells = λ i hi. subst (λ c. Tells (Way (networks r) (up links) i home) i c (routing_line x i)) (settled.chosen i hi) (tells_by _ i (goes_by x i) (member x.reaching i) (settled.ways i hi));
+      tells = λ i hi. subst (λ c. Tells (Way (networks r) (up links) i block.home) i c (routing_line x i)) (settled.chosen i hi) (tells_by _ i (goes_by x i) (member x.reaching i) (settled.ways i hi));
     }

@@ -7,6 +7,7 @@ use Rattle.selection.specs.Choosing.{Choice, nothing, local, via}
 use Rattle.links.specs.Stable.{stable}
 use Rattle.routes.specs.Laws.{Small}
 use Rattle.routes.specs.Lines.{block_words, route_words}
+use Rattle.routes.specs.declared.lines.BlockLine.{BlockLine}
 use Rattle.stable.specs.Linked.{up}
 use Rattle.stable.specs.Looking.{world}
 use Rattle.stable.specs.Settling.{Settled}
@@ -22,16 +23,16 @@ Tells way i nothing line = (way × (line ≡ unpaid_words i)) ⊎ ((way → ⊥)
 Tells way i local line = line ≡ route_words i local
 Tells way i (via j path) line = line ≡ route_words i (via j path)
 
--- a line for the block, and one for each network: what it goes by in the stable routing, or whether some way of links that
--- are up leads from it to the home
-pub record Told (r : Relations) (links : LinkSet) (block home : ℕ) (text : List ℕ) : Type 0 where
+-- a line that tells the block, its addresses and its home, and one for each network: what it goes by in the stable routing, or
+-- whether some way of links that are up leads from it to the home
+pub record Told (r : Relations) (links : LinkSet) (block : BlockLine) (text : List ℕ) : Type 0 where
   pub line : ℕ → List ℕ
-  pub whole : text ≡ block_words block home ++ gather line (networks r)
-  pub tells : (i : ℕ) → i < networks r → Tells (Way (networks r) (up links) i home) i (stable (world r home) (up links) 0 i) (line i)
+  pub whole : text ≡ block_words block ++ gather line (networks r)
+  pub tells : (i : ℕ) → i < networks r → Tells (Way (networks r) (up links) i block.home) i (stable (world r block.home) (up links) 0 i) (line i)
 
 -- so it is with every routing that is settled
 abbrev pub SettledIsTold : Type 0
-SettledIsTold = (r : Relations) (links : LinkSet) (block home : ℕ) (x : Routing) → Settled r links home x → Told r links block home (routing_words block home (networks r) x)
+SettledIsTold = (r : Relations) (links : LinkSet) (block : BlockLine) (x : Routing) → Settled r links block.home x → Told r links block (routing_words block (networks r) x)
 
 -- a line tells which network it is of, what that goes by, and, where it goes by nothing, whether some way leads home
 abbrev pub LinesTell : Type 0

@@ -4,6 +4,7 @@ use Rattle.relations.specs.Lists.{gather}
 use Rattle.selection.specs.Choosing.{Choice, nothing, local, via}
 use Rattle.selection.specs.Sets.{member}
 use Rattle.routes.specs.Lines.{block_words, route_words}
+use Rattle.routes.specs.declared.lines.BlockLine.{BlockLine}
 use Rattle.stable.specs.Settling.{goes_by}
 use Rattle.stable.specs.declared.routing.Routing.{Routing}
 use Rattle.account.specs.declared.account.Account.{Account}
@@ -27,9 +28,9 @@ line_words i (via j path) reaches = route_words i (via j path)
 abbrev pub routing_line : Routing → ℕ → List ℕ
 routing_line x i = line_words i (goes_by x i) (member x.reaching i)
 
--- a line for the block, and one for each network
-abbrev pub routing_words : ℕ → ℕ → ℕ → Routing → List ℕ
-routing_words block home n x = block_words block home ++ gather (routing_line x) n
+-- a line for the block, its addresses and its home, and one for each network
+abbrev pub routing_words : BlockLine → ℕ → Routing → List ℕ
+routing_words block n x = block_words block ++ gather (routing_line x) n
 
 abbrev pub account_words : Account → List ℕ
-account_words a = routing_words a.block a.home a.networks a.routing
+account_words a = routing_words a.block_line a.networks a.routing

@@ -16,28 +16,25 @@ use std::fmt;
 // The stable routing for a block, shown as a line for the block and one for each network.
 #[derive(Drop)]
 pub struct Account<'a> {
-    block: u16,
-    home: u8,
+    block_line: BlockLine,
     networks: u8,
     routing: Routing<'a>,
 }
 
 impl<'a> Account<'a> {
-    // The account of a block, from ties, links and its home alone.
+    // The account of a block, from ties, links and its line alone.
     pub fn new(
         relations: &'a Relations,
         links: &'a LinkSet,
-        block: u16,
-        home: u8,
+        line: BlockLine,
         heap: Global,
     ) -> Result<Account<'a>, AllocError>
-        ensures { IfOk result (λ account. Told relations.now links.now block home (account_words account)) }
+        ensures { IfOk result (λ account. Told relations.now links.now line (account_words account)) }
     {
         Ok(Account {
-            block,
-            home,
+            block_line: line,
             networks: relations.networks(),
-            routing: settle(relations, links, home, heap)?,
+            routing: settle(relations, links, line.home, heap)?,
         })
     }
 }
@@ -61,8 +58,7 @@ impl fmt::Display for Account<'_> {
     ghost output = { λ account. Some (account_words account) };
 
     fn fmt<W: fmt::Write>(&self, f: &mut fmt::Formatter<W>) -> fmt::Result {
-        let (block, home) = (self.block, self.home);
-        write!(f, "{}", BlockLine { block, home })?;
+        write!(f, "{}", self.block_line)?;
         for network in 0..self.networks {
             write!(f, "{}", self.line(network))?;
         }

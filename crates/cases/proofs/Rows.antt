@@ -9,9 +9,9 @@ use Rattle.links.specs.World.{Sound}
 use Rattle.cases.specs.Plays.{Plays}
 use Rattle.cases.specs.Settings.{Setting, up, world}
 use Rattle.cases.specs.Rows.{Holds, Row, Settles}
-use Rattle.cases.specs.Table.{EveryCaseHolds, case_a, case_b, case_c, case_d, case_e, case_f, case_g, a, b, c, d, e, goes_a, goes_b, one_in_flight, to_a, to_b, two_in_flight}
+use Rattle.cases.specs.Table.{EveryCaseHolds, case_a, case_b, case_c, case_d, case_e, case_f, case_g, a, b, c, d, e, goes_a, goes_b, inside, one_in_flight, outside, to_a, to_b, two_in_flight}
 use Rattle.cases.proofs.Answered.{answers, unpaid}
-use Rattle.cases.proofs.Arriving.{along, at_home}
+use Rattle.cases.proofs.Arriving.{along, at_home, found_inside, not_outside, sent_along, sent_at_home, sent_nowhere, sent_to_no_block}
 use Rattle.cases.proofs.Lists.{same_below, values}
 use Rattle.cases.proofs.Refusing.{f_is_refused}
 use Rattle.cases.proofs.Runs.{plays}
@@ -68,19 +68,19 @@ all_of [] ys h k = k
 all_of (x ∷ xs) ys h k = (h.0, all_of xs ys h.1 k)
 
 a_holds : AllByRecursion Holds case_a
-a_holds = (settled a goes_a sound_a refl refl, (plays_to_a, (along a sound_a 3 1 _ (omega arith) refl, tt)))
+a_holds = (settled a goes_a sound_a refl refl, (plays_to_a, (along a sound_a 3 1 _ (omega arith) refl, (sent_along a sound_a 3 inside (omega arith) found_inside 1 _ refl, (sent_at_home a sound_a 0 inside (omega arith) found_inside refl, (sent_to_no_block a sound_a 3 outside (omega arith) not_outside, tt))))))
 
 b_holds : AllByRecursion Holds case_b
-b_holds = (settled b goes_b sound_b refl refl, (refl, (refl, (plays_to_b, (along b sound_b 3 2 _ (omega arith) refl, tt)))))
+b_holds = (settled b goes_b sound_b refl refl, (refl, (refl, (plays_to_b, (along b sound_b 3 2 _ (omega arith) refl, (sent_along b sound_b 3 inside (omega arith) found_inside 2 _ refl, tt))))))
 
 c_holds : AllByRecursion Holds case_c
-c_holds = (settled c _ sound_c refl refl, (unpaid c 2 _ (omega arith) refl (omega arith, refl, (omega arith, refl, (omega arith, refl, refl))), tt))
+c_holds = (settled c _ sound_c refl refl, (unpaid c 2 _ (omega arith) refl (omega arith, refl, (omega arith, refl, (omega arith, refl, refl))), (sent_nowhere c sound_c 2 inside (omega arith) found_inside (λ e. omega (arith, e)) refl, (sent_along c sound_c 3 inside (omega arith) found_inside 1 _ refl, tt))))
 
 d_holds : AllByRecursion Holds case_d
-d_holds = (settled d _ sound_d refl refl, tt)
+d_holds = (settled d _ sound_d refl refl, (sent_along d sound_d 2 inside (omega arith) found_inside 1 _ refl, tt))
 
 e_holds : AllByRecursion Holds case_e
-e_holds = (settled e _ sound_e refl refl, (at_home e sound_e, tt))
+e_holds = (settled e _ sound_e refl refl, (at_home e sound_e, (sent_at_home e sound_e 0 inside (omega arith) found_inside refl, tt)))
 
 f_holds : AllByRecursion Holds case_f
 f_holds = (f_is_refused, tt)

@@ -1,5 +1,5 @@
 -- What a row of the table says. Assumes nothing.
-use Rattle.std.specs.Prelude.{◌≡◌, ℕ, suc, true, ◌<◌, ◌≤◌, List, length, Ok, Err, Some, vec_items, Result, slice_index_or}
+use Rattle.std.specs.Prelude.{◌≡◌, ℕ, suc, true, ◌<◌, ◌≤◌, List, [], ◌∷◌, length, Ok, Err, Some, vec_items, Result, slice_index_or}
 use Rattle.relations.specs.Cycle.{First}
 use Rattle.relations.specs.Sound.{networks as networks_of, relation}
 use Rattle.relations.specs.declared.sound.Relations.{Relations}
@@ -14,9 +14,11 @@ use Rattle.advertisement.specs.Telling.{tells}
 use Rattle.links.specs.World.{Sound}
 use Rattle.links.specs.Stable.{stable}
 use Rattle.links.specs.Local.{Said}
-use Rattle.links.specs.Packets.{Packet, arrives, trip}
+use Rattle.links.specs.Packets.{Packet, Trip, arrives, trip}
 use Rattle.links.specs.Promise.{Lookup}
 use Rattle.links.specs.Run.{State, Quiescent, Reach, begin, links}
+use Rattle.blocks.specs.Ranges.{block_at}
+use Rattle.forwarding.specs.Ends.{fate, fresh}
 use Rattle.stable.specs.Linked.{up as up_of}
 use Rattle.stable.specs.Settling.{Settled, goes_by}
 use Rattle.stable.specs.Ways.{Leads}
@@ -42,6 +44,8 @@ pub data Row : Type 0 where
   unpaid : Setting → ℕ → List ℕ → Row
   -- a packet at a network arrives after so many steps
   arrived : Setting → ℕ → ℕ → Row
+  -- a packet that people of a network send to an address ends so
+  sent : Setting → ℕ → ℕ → Trip → Row
   -- a file of ties is refused
   refused : Cyclic → Row
   -- how it stands after each stage of a run from the beginning
@@ -71,6 +75,14 @@ abbrev pub Arrived : Setting → ℕ → ℕ → Type 0
 Arrived s i steps =
     (at : Lookup) (t : State) (p : Packet) → Reach (world s) at t → Quiescent t → ((i j : ℕ) → links t i j ≡ up s i j) → at p.address ≡ Some 0 → steps ≤ p.hops → trip (world s) at t.locals (suc steps) 0 i p ≡ arrives s.home steps
 
+-- the only block: the addresses from 10.0.0.0 to 10.0.0.255
+abbrev pub in_block : Lookup
+in_block = block_at (167772160 ∷ []) (167772415 ∷ [])
+
+-- whenever no update is in flight and these links are up, that is the fate of the packet
+abbrev pub Sent : Setting → ℕ → ℕ → Trip → Type 0
+Sent s i address end = (t : State) → Reach (world s) in_block t → Quiescent t → ((i j : ℕ) → links t i j ≡ up s i j) → fate (world s) in_block t.locals i (fresh address) ≡ record { address = address; trip = end }
+
 -- the answer to a file is the cycle, told so, or that memory could not be had
 abbrev pub Tells : Cyclic → Result Relations Refusal → Type 0
 Tells c (Ok r) = ⊥
@@ -89,5 +101,6 @@ Holds (settles s choices) = Settles s choices
 Holds (said s i j says) = tells (tied s.ties i) (up s i) i j (stable (world s) (up s) 0 i) ≡ says
 Holds (unpaid s i over) = Unpaid s i over
 Holds (arrived s i steps) = Arrived s i steps
+Holds (sent s i address end) = Sent s i address end
 Holds (refused c) = Refused c
 Holds (plays s stages) = (at : Lookup) → Plays s at begin stages

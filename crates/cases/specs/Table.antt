@@ -3,9 +3,10 @@ use Rattle.std.specs.Prelude.{ℕ, true, false, List, [], ◌∷◌, ◌++◌, S
 use Rattle.std.specs.List.{AllByRecursion}
 use Rattle.selection.specs.Choosing.{Choice, nothing, local, via}
 use Rattle.links.specs.Local.{Said}
+use Rattle.links.specs.Packets.{arrives, lost, no_block, no_route}
 use Rattle.cases.specs.Settings.{Setting, customer_of, peers}
 use Rattle.cases.specs.Plays.{Flight, Stage, Step, hear, turn}
-use Rattle.cases.specs.Rows.{Cyclic, Holds, Row, settles, said, unpaid, arrived, refused, plays}
+use Rattle.cases.specs.Rows.{Cyclic, Holds, Row, settles, said, unpaid, arrived, sent, refused, plays}
 
 -- A: 0 is a customer of 1 and of 2, which are peers; 3 is a customer of both; all links are up
 abbrev pub a : Setting
@@ -91,20 +92,27 @@ two_in_flight =
     (tells 2 3 (Some (2 ∷ 1 ∷ 0 ∷ []) ∷ Some (2 ∷ 0 ∷ []) ∷ []) ∷ []) ∷
     flap
 
+-- 10.0.0.1, in the block, and 10.0.1.0, in none
+abbrev pub inside : ℕ
+inside = 167772161
+
+abbrev pub outside : ℕ
+outside = 167772416
+
 abbrev pub case_a : List Row
-case_a = settles a goes_a ∷ plays a to_a ∷ arrived a 3 2 ∷ []
+case_a = settles a goes_a ∷ plays a to_a ∷ arrived a 3 2 ∷ sent a 3 inside (arrives 0 2) ∷ sent a 0 inside (arrives 0 0) ∷ sent a 3 outside (lost 3 0 no_block) ∷ []
 
 abbrev pub case_b : List Row
-case_b = settles b goes_b ∷ said b 1 2 None ∷ said b 1 3 (Some (1 ∷ 2 ∷ 0 ∷ [])) ∷ plays a to_b ∷ arrived b 3 2 ∷ []
+case_b = settles b goes_b ∷ said b 1 2 None ∷ said b 1 3 (Some (1 ∷ 2 ∷ 0 ∷ [])) ∷ plays a to_b ∷ arrived b 3 2 ∷ sent b 3 inside (arrives 0 2) ∷ []
 
 abbrev pub case_c : List Row
-case_c = settles c (local ∷ via 0 (0 ∷ []) ∷ nothing ∷ via 1 (1 ∷ 0 ∷ []) ∷ []) ∷ unpaid c 2 (3 ∷ 1 ∷ 0 ∷ []) ∷ []
+case_c = settles c (local ∷ via 0 (0 ∷ []) ∷ nothing ∷ via 1 (1 ∷ 0 ∷ []) ∷ []) ∷ unpaid c 2 (3 ∷ 1 ∷ 0 ∷ []) ∷ sent c 2 inside (lost 2 0 no_route) ∷ sent c 3 inside (arrives 0 2) ∷ []
 
 abbrev pub case_d : List Row
-case_d = settles d (local ∷ via 0 (0 ∷ []) ∷ via 1 (1 ∷ 0 ∷ []) ∷ []) ∷ []
+case_d = settles d (local ∷ via 0 (0 ∷ []) ∷ via 1 (1 ∷ 0 ∷ []) ∷ []) ∷ sent d 2 inside (arrives 0 2) ∷ []
 
 abbrev pub case_e : List Row
-case_e = settles e (local ∷ []) ∷ arrived e 0 0 ∷ []
+case_e = settles e (local ∷ []) ∷ arrived e 0 0 ∷ sent e 0 inside (arrives 0 0) ∷ []
 
 abbrev pub case_f : List Row
 case_f = refused f ∷ []

@@ -1,49 +1,68 @@
--- A packet that goes on weighs less than it did. Assumes nothing.
-use Rattle.std.proofs.Common.{◌≡◌, ℕ, zero, suc, ◌+◌, ◌≤◌, Bool, true, false, cond, eqb, ltb, ◌⊎◌, [], ◌∷◌, Some, None, sum_by, Option, refl, ap, ◌∙◌, inl, inr, ⊎_elim, arith}
-use Rattle.std.proofs.lemmas.Bool.{cond_both}
+-- A packet that is handed on goes over a link that is up and has one hop less, so it weighs less than it did. Assumes nothing.
+use Rattle.std.proofs.Common.{◌≡◌, ℕ, zero, suc, ◌<◌, ◌≤◌, true, cond, eqb, [], ◌∷◌, Some, None, sum_by, Option, sym, refl, ap, ◌∙◌, subst, ⊎_elim, arith}
+use Rattle.std.proofs.lemmas.Bool.{cases_eq, cond_both, cond-true, cond-false, eq-eqb, ne_eqb}
 use Rattle.selection.specs.Choosing.{Choice, nothing, local, via}
 use Rattle.links.specs.World.{World}
 use Rattle.links.specs.Local.{Local, choice}
 use Rattle.links.specs.Packets.{Packet, Passed, Why, no_block, no_route, no_hops, arrived, handed, passed, by_choice, hand, of_block, dropped}
-use Rattle.links.specs.Run.{packet, onward}
+use Rattle.links.specs.Run.{Item, packet, onward}
 use Rattle.links.specs.Promise.{Lookup}
 use Rattle.convergence.specs.Measure.{sum, weight}
-use Rattle.convergence.proofs.Sums.{sum_none, sum_one, sum_same}
+use Rattle.convergence.proofs.Goodness.{chosen_is}
+use Rattle.convergence.proofs.Sums.{sum_at, sum_none, sum_same}
 
-other : {X : Type 0} (o : Passed) (j : ℕ) (q : Packet) → (o ≡ arrived) ⊎ ((why : Why) × (o ≡ dropped why)) → o ≡ handed j q → X
-other o j q h e = ⊎_elim (λ a. absurd (let z : ◌≡◌ {A = ℕ} 0 1 = cc in omega arith)) (λ d. let f = d.1 in absurd (let z : ◌≡◌ {A = ℕ} 0 1 = cc in omega arith)) h
-
--- a packet that goes on has one hop less
-module _ (p : Packet) where
+module _ (w : World) (l : Local) (p : Packet) where
   -- what hands nothing on, or hands the packet on with one hop less
   abbrev Less : Passed → Type 0
-  Less o = (j : ℕ) (q : Packet) → o ≡ handed j q → suc q.hops ≡ p.hops
+  Less o = (k : ℕ) (q : Packet) → o ≡ handed k q → (k < w.n) × (l.up k ≡ true) × (q.address ≡ p.address) × (suc q.hops ≡ p.hops)
 
-  less_by_hops : (k hops : ℕ) → hops ≡ p.hops → Less (hand p.address k hops)
-  less_by_hops k zero f j q e = other (dropped no_hops) j q (inr (no_hops, refl)) e
-  less_by_hops k (suc hops) f j q e = let z : q ≡ record { address = p.address; hops = hops } = cc in ap (λ r. suc r.hops) z ∙ f
+  stays : (o : Passed) → o ≡ arrived → Less o
+  stays o a k q e = absurd (let z : ◌≡◌ {A = ℕ} 0 1 = cc in omega arith)
 
-  less_by_choice : (c : Choice) → Less (by_choice p c)
-  less_by_choice nothing j q e = other (dropped no_route) j q (inr (no_route, refl)) e
-  less_by_choice local j q e = other arrived j q (inl refl) e
-  less_by_choice (via k path) j q e = less_by_hops k p.hops refl j q e
+  falls : (o : Passed) (why : Why) → o ≡ dropped why → Less o
+  falls o why d k q e = absurd (let z : ◌≡◌ {A = ℕ} 0 1 = cc in omega arith)
 
-  less_in_block : (w : World) (i : ℕ) (l : Local) (o : Option ℕ) → Less (of_block w i l p o)
-  less_in_block w i l None j q e = other (dropped no_block) j q (inr (no_block, refl)) e
-  less_in_block w i l (Some b) j q e = cond_both (eqb i (w.home b)) arrived (by_choice p (choice w i l b)) Less (λ _ k r f. other arrived k r (inl refl) f) (λ _. less_by_choice (choice w i l b)) j q e
+  less_by_hops : (j : ℕ) → j < w.n → l.up j ≡ true → (hops : ℕ) → hops ≡ p.hops → Less (hand p.address j hops)
+  less_by_hops j there up zero f k q e = falls (dropped no_hops) no_hops refl k q e
+  less_by_hops j there up (suc hops) f k q e =
+      let r : Packet = record { address = p.address; hops = hops } in
+      let same : q ≡ r = cc in
+      let to : k ≡ j = cc in
+      (subst (λ y. y < w.n) (sym to) there, ap l.up to ∙ up, ap (λ y. y.address) same, ap (λ y. suc y.hops) same ∙ f)
 
-  onward_light : (n : ℕ) (lev : ℕ → ℕ) (o : Passed) → Less o → sum n (λ k. sum_by (weight n (lev k)) (onward o k)) ≤ p.hops
-  onward_light n lev arrived h = omega (arith, sum_none n)
-  onward_light n lev (dropped why) h = omega (arith, sum_none n)
-  onward_light n lev (handed j q) h =
-      let e = h j q refl in
-      let all : sum n (λ k. sum_by (weight n (lev k)) (onward (handed j q) k)) ≡ cond (ltb j n) (q.hops + 1) 0 = sum_same n _ _ (λ k _. one k (eqb k j)) ∙ sum_one n j (q.hops + 1) in
-      cond_both (ltb j n) (q.hops + 1) 0 (λ y. sum n (λ k. sum_by (weight n (lev k)) (onward (handed j q) k)) ≡ y → sum n (λ k. sum_by (weight n (lev k)) (onward (handed j q) k)) ≤ p.hops) (λ _ f. omega (arith, e, f)) (λ _ f. omega (arith, f)) all
-    where
-      one : (k : ℕ) (t : Bool) → sum_by (weight n (lev k)) (cond t (packet q ∷ []) []) ≡ cond t (q.hops + 1) 0
-      one k true = omega arith
-      one k false = refl
+  less_by_choice : (i b : ℕ) (c : Choice) → choice w i l b ≡ c → Less (by_choice p c)
+  less_by_choice i b nothing e = falls (dropped no_route) no_route refl
+  less_by_choice i b local e = stays arrived refl
+  less_by_choice i b (via j path) e = let c = chosen_is w i l b j path e in less_by_hops j c.there c.up p.hops refl
+
+  less_in_block : (i : ℕ) (o : Option ℕ) → Less (of_block w i l p o)
+  less_in_block i None = falls (dropped no_block) no_block refl
+  less_in_block i (Some b) = cond_both (eqb i (w.home b)) arrived (by_choice p (choice w i l b)) Less (λ _. stays arrived refl) (λ _. less_by_choice i b (choice w i l b) refl)
+
+pub handed_on : (w : World) (find : Lookup) (i : ℕ) (l : Local) (p : Packet) (k : ℕ) (q : Packet) → passed w find i l p ≡ handed k q → (k < w.n) × (l.up k ≡ true) × (q.address ≡ p.address) × (suc q.hops ≡ p.hops)
+handed_on w find i l p = less_in_block w l p i (find p.address)
+
+-- what goes on to one network, weighed by where it goes
+pub onward_one : (n : ℕ) (heavy : ℕ → Item → ℕ) (j : ℕ) (q : Packet) → j < n → sum n (λ k. sum_by (heavy k) (onward (handed j q) k)) ≡ heavy j (packet q)
+onward_one n heavy j q h = sum_same n _ _ (λ k _. one k) ∙ sum_at n j (heavy j (packet q)) h
+  where
+    one : (k : ℕ) → sum_by (heavy k) (cond (eqb k j) (packet q ∷ []) []) ≡ cond (eqb k j) (heavy j (packet q)) 0
+    one k =
+        ⊎_elim
+        (λ e. let same = ap (λ y. heavy y (packet q)) e in let here = eq-eqb k j e in
+        let c = ap (sum_by (heavy k)) (cond-true (eqb k j) (packet q ∷ []) [] here) in let d = cond-true (eqb k j) (heavy j (packet q)) 0 here in omega (arith, same, c, d))
+        (λ ne. ap (sum_by (heavy k)) (cond-false (eqb k j) (packet q ∷ []) [] (ne_eqb k j ne)) ∙ sym (cond-false (eqb k j) (heavy j (packet q)) 0 (ne_eqb k j ne)))
+        (cases_eq k j)
 
 -- what goes on of a packet, over channels of any levels
 pub onward_weighs : (w : World) (find : Lookup) (i : ℕ) (l : Local) (p : Packet) (lev : ℕ → ℕ) → sum w.n (λ k. sum_by (weight w.n (lev k)) (onward (passed w find i l p) k)) ≤ p.hops
-onward_weighs w find i l p lev = onward_light p w.n lev (passed w find i l p) (less_in_block p w i l (find p.address))
+onward_weighs w find i l p lev = light (passed w find i l p) refl
+  where
+    light : (o : Passed) → passed w find i l p ≡ o → sum w.n (λ k. sum_by (weight w.n (lev k)) (onward o k)) ≤ p.hops
+    light arrived e = omega (arith, sum_none w.n)
+    light (dropped why) e = omega (arith, sum_none w.n)
+    light (handed j q) e =
+        let h = handed_on w find i l p j q e in
+        let a = onward_one w.n (λ k. weight w.n (lev k)) j q h.0 in
+        let b = h.3 in
+        omega (arith, a, b)

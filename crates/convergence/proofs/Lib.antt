@@ -20,6 +20,7 @@ pub mod Runs
 pub mod Coherence
 pub mod Quiescence
 pub mod Sums
+pub mod Flows
 pub mod Weighing
 pub mod Hops
 pub mod Falling

@@ -32,7 +32,7 @@ tells_emits w sound i these l hi held =
     one k c hc = cond_both (sends w i these l c k) (record { block = c; says = tells_now w i l c k } ∷ []) [] (AllByRecursion (λ u. ProperItem w k i (update u))) (λ e. ((hc, tells_proper w sound i k hi (due_is w these l c k (and_parts (due w these l c k) _ e).0).there c l held), tt)) (λ _. tt)
 
 -- a packet goes on over a link that is up
-onward_quiet : (o : Passed) (k : ℕ) → NoUpdate (onward o k)
+pub onward_quiet : (o : Passed) (k : ℕ) → NoUpdate (onward o k)
 onward_quiet arrived k = tt
 onward_quiet (dropped why) k = tt
 onward_quiet (handed j p) k = cond_both (eqb k j) (packet p ∷ []) [] NoUpdate (λ _. tt) (λ _. tt)

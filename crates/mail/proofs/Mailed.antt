@@ -7,6 +7,7 @@ use Rattle.advertisement.specs.Sayings.{same_saying}
 use Rattle.links.specs.Answers.{Answered, TurnAnswered}
 use Rattle.links.specs.Hearing.{after_hearing, after_turning, every, forgotten, only, outbox_on_hearing, outbox_on_turning, replaced, unless}
 use Rattle.links.specs.Local.{Local, Said, Update, due, gather, outbox, retold, sends, tells_now}
+use Rattle.links.specs.Run.{update}
 use Rattle.links.specs.World.{World}
 use Rattle.links.specs.declared.fault.Fault.{Fault}
 use Rattle.links.proofs.Receiving.{there}
@@ -19,7 +20,7 @@ pub map_gather : {X Y : Type 0} (f : X → Y) (g : ℕ → List X) (m : ℕ) →
 map_gather f g zero = refl
 map_gather f g (suc m) = map-append f (gather g m) (g m) ∙ ap (λ l. l ++ map f (g m)) (map_gather f g m)
 
-map_cond : {X Y : Type 0} (f : X → Y) (b : Bool) (x : X) → map f (cond b (x ∷ []) []) ≡ cond b (f x ∷ []) []
+pub map_cond : {X Y : Type 0} (f : X → Y) (b : Bool) (x : X) → map f (cond b (x ∷ []) []) ≡ cond b (f x ∷ []) []
 map_cond f true x = refl
 map_cond f false x = refl
 
@@ -31,7 +32,7 @@ sent_due false same f t a = refl
 module _ (w : World) (i : ℕ) (these : ℕ → Bool) (s : Local) where
   -- what it sends of block b to k
   abbrev pub one : ℕ → ℕ → List Post
-  one b k = cond (sends w i these s b k) (record { from = i; to = k; what = record { block = b; says = tells_now w i s b k } } ∷ []) []
+  one b k = cond (sends w i these s b k) (record { from = i; to = k; what = update (record { block = b; says = tells_now w i s b k }) } ∷ []) []
 
   pub mail_outbox : mail i (outbox w i these s) ≡ gather (λ b. gather (one b) w.n) w.blocks
   mail_outbox =
@@ -40,7 +41,7 @@ module _ (w : World) (i : ℕ) (these : ℕ → Bool) (s : Local) where
 
   pub mailed_block : (b : ℕ) (whom : ℕ → Bool) (says : ℕ → Said) → ((k : ℕ) → whom k ≡ sends w i these s b k) → ((k : ℕ) → says k ≡ (retold w i these s).advertised b k) → mailing i b whom says w.n ≡ gather (one b) w.n
   mailed_block b whom says who what =
-      gather_same _ _ w.n (λ k h. (λ x. cond (who k x) (record { from = i; to = k; what = record { block = b; says = what k x } } ∷ []) []) ∙ sent_due (due w these s b k) (same_saying (tells_now w i s b k) (s.advertised b k)) (λ t. record { from = i; to = k; what = record { block = b; says = t } }) (tells_now w i s b k) (s.advertised b k))
+      gather_same _ _ w.n (λ k h. (λ x. cond (who k x) (record { from = i; to = k; what = update (record { block = b; says = what k x }) } ∷ []) []) ∙ sent_due (due w these s b k) (same_saying (tells_now w i s b k) (s.advertised b k)) (λ t. record { from = i; to = k; what = update (record { block = b; says = t }) }) (tells_now w i s b k) (s.advertised b k))
 
 module _ (w : World) (i block : ℕ) (s : Local) where
   -- of one block alone
@@ -48,7 +49,7 @@ module _ (w : World) (i block : ℕ) (s : Local) where
   mailed_only whom says l who what = mailed_block w i (only block) s block whom says who what ∙ sym (gather_one _ block w.blocks l others) ∙ sym (mail_outbox w i (only block) s)
     where
       others : (b : ℕ) → (b ≡ block → ⊥) → gather (one w i (only block) s b) w.n ≡ []
-      others b ne = gather_none _ w.n (λ k h. ap (λ t. cond ((t && ltb b w.blocks && ltb k w.n && s.up k) && not (same_saying (tells_now w i s b k) (s.advertised b k))) (record { from = i; to = k; what = record { block = b; says = tells_now w i s b k } } ∷ []) []) (ne_eqb b block ne))
+      others b ne = gather_none _ w.n (λ k h. ap (λ t. cond ((t && ltb b w.blocks && ltb k w.n && s.up k) && not (same_saying (tells_now w i s b k) (s.advertised b k))) (record { from = i; to = k; what = update (record { block = b; says = tells_now w i s b k }) } ∷ []) []) (ne_eqb b block ne))
 
 -- after an update was heard
 pub heard_mail : (w : World) (i j : ℕ) (u : Update) (s : Local) (heard : Result Audience Fault) (says : ℕ → Said) → Answered w i s j u heard → ((k : ℕ) → says k ≡ (after_hearing w i j u s).advertised u.block k) → mailing i u.block (told_by heard) says w.n ≡ mail i (outbox_on_hearing w i j u s)

@@ -10,11 +10,12 @@ use Rattle.advertisement.specs.Audiences.{Audience, in_audience}
 use Rattle.advertisement.specs.Updates.{block_of, said}
 use Rattle.advertisement.specs.declared.update.Update.{Update as Message}
 use Rattle.links.specs.declared.fault.Fault.{Fault}
-use Rattle.links.specs.Held.{news}
-use Rattle.links.specs.Local.{Said, Update, gather}
+use Rattle.links.specs.Local.{Said, gather}
+use Rattle.links.specs.Run.{Item, update}
+use Rattle.mail.specs.declared.letter.Item.TheVariants.{Update}
 use Rattle.mail.specs.declared.letter.Letter.{Letter}
 use Rattle.mail.specs.Posting.{Oldest, blank, letter_at, told_by, whom}
-use Rattle.mail.specs.Posts.{Post, addressed, between, cut, goes, mailing, meant, posts}
+use Rattle.mail.specs.Posts.{Post, addressed, between, cut, goes, item_of, mailing, meant, posts}
 use Rattle.relations.proofs.Gathered.{gather_more, gather_none}
 
 with_tail : {X : Type 0} (b : Bool) (x : X) (ys zs : List X) → cond b (x ∷ (ys ++ zs)) (ys ++ zs) ≡ cond b (x ∷ ys) ys ++ zs
@@ -30,12 +31,12 @@ same_ends : (i j : ℕ) (p : Post) → true ≡ goes i j p → p ≡ record { fr
 same_ends i j p h = let e : (p.from ≡ i) × (p.to ≡ j) = grind (arith, nat_tests) in λ x. record { from = e.0 x; to = e.1 x; what = p.what }
 
 -- at place k stands what i sent to j, and nothing before it did
-pub record Front (i j k : ℕ) (u : Update) (ps : List Post) : Type 0 where
+pub record Front (i j k : ℕ) (u : Item) (ps : List Post) : Type 0 where
   pub there : k < length ps
   pub first : between i j (take k ps) ≡ []
   pub here : (p : Post) → get_or ps k p ≡ record { from = i; to = j; what = u }
 
-pub oldest_front : (i j k : ℕ) (ls : List Letter) → Oldest i j k ls → Front i j k (news (letter_at ls k).update) (posts ls)
+pub oldest_front : (i j k : ℕ) (ls : List Letter) → Oldest i j k ls → Front i j k (item_of (letter_at ls k).item) (posts ls)
 oldest_front i j k ls old = record {
   there = omega (arith, old.there, length-map ls meant);
   first = ap (between i j) (take-map meant k ls) ∙ old.first;
@@ -77,11 +78,11 @@ pub posted_more : (f : ℕ → List Post) (entry : List Post) (k : ℕ) (now nex
 posted_more f entry k now next inv step = step ∙ ap (λ l. l ++ f k) inv ∙ append_assoc entry (gather f k) (f k) ∙ ap (λ l. entry ++ l) (sym (gather_more f k))
 
 -- one update is sent
-pub sent_one : (i k block : ℕ) (whom : ℕ → Bool) (says : ℕ → Said) (u : Message) (before after : List Letter) → after ≡ before ++ record { from = i; to = k; update = u } ∷ [] → block_of u ≡ block → said u ≡ says k → true ≡ whom k → posts after ≡ posts before ++ addressed i block whom says k
-sent_one i k block whom says u before after e here what told = ap posts e ∙ map_push meant before (record { from = i; to = k; update = u }) ∙ ap (λ t. posts before ++ t) (λ x. cond (told x) (record { from = i; to = k; what = record { block = here x; says = what x } } ∷ []) [])
+pub sent_one : (i k block : ℕ) (whom : ℕ → Bool) (says : ℕ → Said) (u : Message) (before after : List Letter) → after ≡ before ++ record { from = i; to = k; item = Update u } ∷ [] → block_of u ≡ block → said u ≡ says k → true ≡ whom k → posts after ≡ posts before ++ addressed i block whom says k
+sent_one i k block whom says u before after e here what told = ap posts e ∙ map_push meant before (record { from = i; to = k; item = Update u }) ∙ ap (λ t. posts before ++ t) (λ x. cond (told x) (record { from = i; to = k; what = update (record { block = here x; says = what x }) } ∷ []) [])
 
 pub none_sent : (i k block : ℕ) (whom : ℕ → Bool) (says : ℕ → Said) (ps : List Post) → false ≡ whom k → ps ≡ ps ++ addressed i block whom says k
-none_sent i k block whom says ps e = sym (append-nil ps) ∙ ap (λ t. ps ++ t) (λ x. cond (e x) (record { from = i; to = k; what = record { block = block; says = says k } } ∷ []) [])
+none_sent i k block whom says ps e = sym (append-nil ps) ∙ ap (λ t. ps ++ t) (λ x. cond (e x) (record { from = i; to = k; what = update (record { block = block; says = says k }) } ∷ []) [])
 
 pub by_audience : (audiences : List Audience) (b : ℕ) (a : Audience) → b < length audiences → a ≡ get_or audiences b a → whom audiences b ≡ in_audience a
 by_audience audiences b a l e = get_or-map in_audience audiences b a (λ k. false) l ∙ ap in_audience (sym e)

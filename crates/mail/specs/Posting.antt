@@ -1,14 +1,17 @@
 -- The oldest of what is in flight, and who is told of what is sent. Assumes nothing.
 use Rattle.std.specs.Prelude.{◌≡◌, ℕ, ◌<◌, Bool, true, false, List, [], map, length, take, Result, Ok, Err, slice_index_or}
+use Rattle.std.specs.List.{filter}
 use Rattle.advertisement.specs.Audiences.{Audience, in_audience}
 use Rattle.advertisement.specs.declared.update.Update.TheVariants.{Announce}
+use Rattle.links.specs.Run.{Item, update, packet}
 use Rattle.links.specs.declared.fault.Fault.{Fault}
 use Rattle.mail.specs.Posts.{between, goes, meant, posts}
+use Rattle.mail.specs.declared.letter.Item.TheVariants.{Update}
 use Rattle.mail.specs.declared.letter.Letter.{Letter}
 
 -- a letter that stands where there is none
 abbrev pub blank : Letter
-blank = record { from = 0; to = 0; update = Announce (record { block = 0; length = 0; networks = [] }) }
+blank = record { from = 0; to = 0; item = Update (Announce (record { block = 0; length = 0; networks = [] })) }
 
 -- the letter at place k
 abbrev pub letter_at : List Letter → ℕ → Letter
@@ -28,3 +31,12 @@ whom audiences b = slice_index_or (map in_audience audiences) b (λ k. false)
 abbrev pub told_by : Result Audience Fault → ℕ → Bool
 told_by (Ok audience) k = in_audience audience k
 told_by (Err fault) k = false
+
+-- whether it is an update
+abbrev pub is_update : Item → Bool
+is_update (update u) = true
+is_update (packet p) = false
+
+-- how many of these letters are updates
+abbrev pub updates_sent : List Letter → ℕ
+updates_sent ls = length (filter (λ l. is_update (meant l).what) ls)

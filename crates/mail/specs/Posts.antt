@@ -2,17 +2,25 @@
 use Rattle.std.specs.Prelude.{ℕ, Bool, true, cond, ◌&&◌, ◌||◌, List, [], ◌∷◌, map, ◌==◌, nat_lt}
 use Rattle.links.specs.Held.{news}
 use Rattle.links.specs.Local.{Update, Said, gather}
-use Rattle.links.specs.Run.{Item, update}
+use Rattle.links.specs.Packets.{Passed, arrived, dropped, handed}
+use Rattle.links.specs.Run.{Item, update, packet}
+use Rattle.forwarding.specs.Passing.{packet_of}
+use Rattle.mail.specs.declared.letter.Item as letter
+use Rattle.mail.specs.declared.letter.Item.TheVariants as sent
 use Rattle.mail.specs.declared.letter.Letter.{Letter}
 
--- an update that one network sent to another
+-- what one network sent to another
 pub record Post : Type 0 where
   pub from : ℕ
   pub to : ℕ
-  pub what : Update
+  pub what : Item
+
+abbrev pub item_of : letter.Item → Item
+item_of (sent.Update u) = update (news u)
+item_of (sent.Packet p) = packet (packet_of p)
 
 abbrev pub meant : Letter → Post
-meant l = record { from = l.from; to = l.to; what = news l.update }
+meant l = record { from = l.from; to = l.to; what = item_of l.item }
 
 abbrev pub posts : List Letter → List Post
 posts = map meant
@@ -22,13 +30,13 @@ abbrev pub goes : ℕ → ℕ → Post → Bool
 goes i j p = p.from == i && p.to == j
 
 -- what i sent to j
-abbrev pub between : ℕ → ℕ → List Post → List Update
+abbrev pub between : ℕ → ℕ → List Post → List Item
 between i j [] = []
 between i j (p ∷ ps) = cond (goes i j p) (p.what ∷ between i j ps) (between i j ps)
 
 -- what is in flight from i to j
 abbrev pub flying : List Post → ℕ → ℕ → List Item
-flying ps i j = map update (between i j ps)
+flying ps i j = between i j ps
 
 -- without what is in flight over the link of i and j, either way
 abbrev pub cut : ℕ → ℕ → List Post → List Post
@@ -42,7 +50,7 @@ inside n (p ∷ ps) = (nat_lt p.from n && nat_lt p.to n) && inside n ps
 
 -- what network i sends of a block to network k, if it is to be told
 abbrev pub addressed : ℕ → ℕ → (ℕ → Bool) → (ℕ → Said) → ℕ → List Post
-addressed i block whom says k = cond (whom k) (record { from = i; to = k; what = record { block = block; says = says k } } ∷ []) []
+addressed i block whom says k = cond (whom k) (record { from = i; to = k; what = update (record { block = block; says = says k }) } ∷ []) []
 
 -- what it sends of a block to those of n networks that are to be told, in the order of their numbers
 abbrev pub mailing : ℕ → ℕ → (ℕ → Bool) → (ℕ → Said) → ℕ → List Post
@@ -50,4 +58,10 @@ mailing i block whom says n = gather (addressed i block whom says) n
 
 -- what network i sends, each to its hearer
 abbrev pub mail : ℕ → List (ℕ × Update) → List Post
-mail i = map (λ x. record { from = i; to = x.0; what = x.1 })
+mail i = map (λ x. record { from = i; to = x.0; what = update x.1 })
+
+-- a packet that network i hands on goes to one neighbour
+abbrev pub passed_on : ℕ → Passed → List Post
+passed_on i arrived = []
+passed_on i (dropped why) = []
+passed_on i (handed j p) = record { from = i; to = j; what = packet p } ∷ []

@@ -1,23 +1,27 @@
 -- All networks together, in the terms of the model of a run. Assumes nothing.
-use Rattle.std.specs.Prelude.{◌≡◌, ℕ, Bool, List, ◌++◌, map, length, None, vec_items, Option, slice_index, slice_index_or}
+use Rattle.std.specs.Prelude.{◌≡◌, ℕ, Bool, List, ◌++◌, map, length, Some, None, vec_items, Option, slice_index, slice_index_or}
+use Rattle.std.specs.Option.{option_map}
 use Rattle.relations.specs.Sound.{networks, relation}
 use Rattle.relations.specs.declared.sound.Relations.{Relations}
 use Rattle.links.specs.Hearing.{after_turning, outbox_on_turning}
 use Rattle.links.specs.Held.{held}
 use Rattle.links.specs.Local.{Local, Update, silent}
+use Rattle.links.specs.Packets.{Packet, Passed, passed}
+use Rattle.links.specs.Promise.{Lookup}
 use Rattle.links.specs.Run.{State}
+use Rattle.links.specs.declared.fault.Fault.{Fault}
+use Rattle.blocks.specs.declared.blocks.Blocks.{Blocks}
+use Rattle.forwarding.specs.Ends.{end_at}
+use Rattle.forwarding.specs.Passing.{ended_of, lookup, packet_fault}
+use Rattle.forwarding.specs.declared.packet.Ending.{Ending}
 use Rattle.links.specs.World.{World}
-use Rattle.mail.specs.Posts.{flying, mail, posts}
+use Rattle.mail.specs.Posts.{flying, mail, passed_on, posts}
 use Rattle.mail.specs.declared.letter.Letter.{Letter}
 use Rattle.mail.specs.declared.network.Network.{Network}
 
 -- the networks and the homes of the blocks
 abbrev pub ground : Relations → List ℕ → World
 ground r homes = record { n = networks r; rel = relation r; blocks = length homes; home = λ b. slice_index homes b }
-
--- no packets yet: an address is in no block
-abbrev pub nowhere : ℕ → Option ℕ
-nowhere a = None
 
 abbrev pub local : Network → Local
 local x = held x.router x.tables
@@ -45,6 +49,28 @@ pub record Stepped (x : Network) (then : Local) (sent : List (ℕ × Update)) (b
   pub homes : homes_of y ≡ homes_of x
   pub holds : local y ≡ then
   pub letters : posts after ≡ posts before ++ mail (number_of x) sent
+
+-- the block that an address is in, as network x has the homes
+abbrev pub lookup_of : Relations → Network → Blocks → Lookup
+lookup_of r x blocks = lookup (ground_of r x) blocks
+
+-- what becomes of a packet at network x
+abbrev pub passed_at : Relations → Network → Blocks → Packet → Passed
+passed_at r x blocks p = passed (ground_of r x) (lookup_of r x blocks) (number_of x) (local x) p
+
+-- network x got a packet, and this became of it: it went on to a neighbour, behind what was in flight before, or ended
+pub record Carried (x : Network) (p : Packet) (became : Passed) (before after : List Letter) (ending : Option Ending) : Type 0 where
+  pub letters : posts after ≡ posts before ++ passed_on (number_of x) became
+  pub end : option_map ended_of ending ≡ end_at (number_of x) p became
+
+-- so, unless it is refused: a refused one does not go on, and ends without a word
+abbrev pub Judged : Relations → Network → Blocks → Packet → List Letter → List Letter → Option Ending → Option Fault → Type 0
+Judged r x blocks p before after ending None = Carried x p (passed_at r x blocks p) before after ending
+Judged r x blocks p before after ending (Some fault) = (after ≡ before) × (ending ≡ None)
+
+-- network x got a packet from network j
+abbrev pub Got : Relations → Network → Blocks → ℕ → Packet → List Letter → List Letter → Option Ending → Type 0
+Got r x blocks j p before after ending = Judged r x blocks p before after ending (packet_fault (ground_of r x) (number_of x) (local x) j)
 
 -- what network x holds and sends when its link to network j turned
 abbrev pub turned_to : Relations → Network → ℕ → Bool → Local

@@ -1,15 +1,24 @@
-// An update on its way.
+// What is on its way from one network to another.
 ghost use Rattle.std.specs.Prelude.{◌≡◌, ◌||◌};
+ghost use Rattle.mail.specs.Posting.{is_update};
 ghost use Rattle.mail.specs.Posts.{goes, meant};
 
 use advertisement::Update;
+use forwarding::Packet;
+
+// What goes over a link.
+#[derive(Clone, Copy)]
+pub enum Item {
+    Update(Update),
+    Packet(Packet),
+}
 
 // Two numbers, and no struct of both: commands name the two ends one by one, and `hear` and `turn` take them so.
 #[derive(Clone, Copy)]
 pub struct Letter {
     pub from: u8,
     pub to: u8,
-    pub update: Update,
+    pub item: Item,
 }
 
 impl Letter {
@@ -18,6 +27,13 @@ impl Letter {
         ensures { result ≡ goes from to (meant self.now) }
     {
         self.from == from && self.to == to
+    }
+
+    // Whether it is an update.
+    pub(crate) fn is_update(&self) -> bool
+        ensures { result ≡ is_update (meant self.now).what }
+    {
+        matches!(self.item, Item::Update(_))
     }
 
     // Whether it goes over the link of two networks, either way.

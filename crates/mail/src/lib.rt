@@ -5,6 +5,6 @@ mod letter;
 mod network;
 mod posting;
 
-pub use letter::Letter;
+pub use letter::{Item, Letter};
 pub use network::{Network, turn_both};
-pub use posting::{cut_link, oldest, without};
+pub use posting::{cut_link, oldest, updates, without};

@@ -1,6 +1,7 @@
 // One network: its router, and what it holds.
 use links::{Router, Tables};
 
+mod carrying;
 mod sending;
 mod stepping;
 

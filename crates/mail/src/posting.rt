@@ -1,6 +1,6 @@
 // Letters: which is the oldest, and which stay.
 ghost use Rattle.std.specs.Prelude.{◌≡◌, ◌+◌, [], ◌++◌, take, drop, IfOk, MatchOption};
-ghost use Rattle.mail.specs.Posting.{Oldest};
+ghost use Rattle.mail.specs.Posting.{Oldest, updates_sent};
 ghost use Rattle.mail.specs.Posts.{between, cut, posts};
 
 use crate::letter::Letter;
@@ -39,4 +39,11 @@ pub fn cut_link(
         .copied()
         .filter(|letter| !letter.crosses(one, other))
         .collect(heap)
+}
+
+// How many of the letters are updates.
+pub fn updates(letters: &[Letter]) -> usize
+    ensures { result ≡ updates_sent letters.now }
+{
+    letters.iter().filter(|letter| letter.is_update()).count()
 }

@@ -1,19 +1,19 @@
-// rehearsals (TIES SCRIPT HOME)...: plays several scripts, and says of each what it shows and why it is not played on.
+// rehearsals (TIES BLOCKS SCRIPT)...: plays several scripts, and says of each what it shows and why it is not played on.
 #![tactic(auto)]
 
 use stage::{Failure, perform, unmoved, words};
 use std::io;
 use std::process::ExitCode;
 
-const USAGE: &str = "usage: rehearsals (TIES SCRIPT HOME)...";
+const USAGE: &str = "usage: rehearsals (TIES BLOCKS SCRIPT)...";
 
 // Plays one script, of three words.
 fn tell(rt: &HostRuntime, words: &[String]) -> io::Result<()> {
-    let [ties, script, home] = words else {
+    let [ties, blocks, script] = words else {
         return rt.println(USAGE);
     };
-    println!(rt; "{ties} {script} {home}")?;
-    perform(rt, ties.as_str(), script.as_str(), &words[2..]).or_else(|failure| println!(rt;
+    println!(rt; "{ties} {blocks} {script}")?;
+    perform(rt, ties.as_str(), blocks.as_str(), script.as_str()).or_else(|failure| println!(rt;
         "{failure}"
     ))
 }

@@ -1,3 +1,4 @@
 pub mod Routes
 pub mod Steps
 pub mod Playing
+pub mod Endings

@@ -1,8 +1,8 @@
 // What the networks of a rehearsal go by, a line for each.
 ghost use Rattle.std.specs.Prelude.{Some};
-ghost use Rattle.simulation.specs.Simulated.{state_of, world_of};
 ghost use Rattle.report.specs.Routes.{show_words};
 
+use blocks::Block;
 use routes::{BlockLine, RouteLine};
 use simulation::Simulation;
 use std::fmt;
@@ -15,14 +15,23 @@ pub struct Shown<'a> {
 }
 
 impl fmt::Display for Shown<'_> {
-    ghost output = { λ shown. Some (show_words (world_of shown.simulation.now) (state_of shown.simulation.now) shown.block) };
+    ghost output = { λ shown. Some (show_words shown.simulation.now shown.block) };
 
     fn fmt<W: fmt::Write>(&self, f: &mut fmt::Formatter<W>) -> fmt::Result {
         let block = self.block;
-        let Some(home) = self.simulation.home(block) else {
+        let Some(Block { first, last, home }) = self.simulation.block(block) else {
             return Ok(());
         };
-        write!(f, "{}", BlockLine { block, home })?;
+        write!(
+            f,
+            "{}",
+            BlockLine {
+                block,
+                first,
+                last,
+                home,
+            }
+        )?;
         let networks = self.simulation.networks();
         for network in 0..networks {
             let route = self.simulation.route(network, block);

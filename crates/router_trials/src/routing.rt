@@ -6,7 +6,7 @@ use relations::{Matrix, Relation, Relations};
 use std::test::Fail;
 
 // By hand, as in `trials`, which is tests alone and lends nothing.
-fn ties(rt: HostRuntime) -> Result<Relations, Fail> {
+pub(crate) fn ties(rt: HostRuntime) -> Result<Relations, Fail> {
     let mut matrix = Matrix::new(rt.alloc(), 4)?;
     matrix.relate(1, 0, Relation::Customer);
     matrix.relate(1, 2, Relation::Peer);
@@ -14,13 +14,13 @@ fn ties(rt: HostRuntime) -> Result<Relations, Fail> {
     Ok(sound(matrix, rt.alloc())?)
 }
 
-fn blocks(rt: HostRuntime) -> Result<Tables, Fail> {
+pub(crate) fn tables(rt: HostRuntime) -> Result<Tables, Fail> {
     Ok(Tables::new(rt.alloc(), &[0, 3])?)
 }
 
 #[test]
 fn tables_made_and_copied(rt: HostRuntime) -> Result<(), Fail> {
-    let copy = blocks(rt)?.clone()?;
+    let copy = tables(rt)?.clone()?;
     assert_eq!(rt;
         (copy.home(0), copy.home(1), copy.home(2)),
         (Some(0), Some(3), None)
@@ -33,7 +33,7 @@ fn tables_made_and_copied(rt: HostRuntime) -> Result<(), Fail> {
 }
 
 // With the links to 0, 2 and 3 up.
-fn started(ties: &Relations, tables: &mut Tables) -> Router {
+pub(crate) fn started(ties: &Relations, tables: &mut Tables) -> Router {
     let mut router = Router::new(1);
     for other in [0, 2, 3] {
         (router, _) = router.turn(ties, tables, other, true);
@@ -42,7 +42,7 @@ fn started(ties: &Relations, tables: &mut Tables) -> Router {
 }
 
 // The path that is told, or none at all.
-fn update(block: u16, networks: &[u8]) -> Update {
+pub(crate) fn update(block: u16, networks: &[u8]) -> Update {
     Update::announce(block, networks).unwrap_or(Update::withdraw(block))
 }
 
@@ -58,7 +58,7 @@ fn whom(audience: Audience) -> (bool, bool, bool) {
 #[test]
 fn told_and_taken_back(rt: HostRuntime) -> Result<(), Fail> {
     let ties = ties(rt)?;
-    let mut tables = blocks(rt)?;
+    let mut tables = tables(rt)?;
     let mut router = started(&ties, &mut tables);
     let cases: [(u8, Update, (bool, bool, bool)); 4] = [
         // a customer's path goes to all
@@ -86,7 +86,7 @@ fn told(tables: &Tables) -> Result<(bool, bool, bool), Fail> {
 #[test]
 fn a_link_turns_twice(rt: HostRuntime) -> Result<(), Fail> {
     let ties = ties(rt)?;
-    let mut tables = blocks(rt)?;
+    let mut tables = tables(rt)?;
     let router = started(&ties, &mut tables);
     let (router, _) = router.hear(&ties, &mut tables, 0, update(0, &[0]));
     let (router, _) = router.turn(&ties, &mut tables, 0, false);
@@ -107,7 +107,7 @@ fn a_link_turns_twice(rt: HostRuntime) -> Result<(), Fail> {
 #[test]
 fn a_link_that_there_is_not(rt: HostRuntime) -> Result<(), Fail> {
     let ties = ties(rt)?;
-    let mut tables = blocks(rt)?;
+    let mut tables = tables(rt)?;
     let (_, turned) = Router::new(1).turn(&ties, &mut tables, 1, true);
     assert_eq!(rt; turned, Err(Fault::NoLink));
     Ok(())
@@ -116,7 +116,7 @@ fn a_link_that_there_is_not(rt: HostRuntime) -> Result<(), Fail> {
 #[test]
 fn refusals(rt: HostRuntime) -> Result<(), Fail> {
     let ties = ties(rt)?;
-    let mut tables = blocks(rt)?;
+    let mut tables = tables(rt)?;
     let router = started(&ties, &mut tables);
     let cases: [(u8, u16, &[u8], Fault); 8] = [
         (4, 0, &[4, 0], Fault::NoSuchNetwork),
@@ -138,7 +138,7 @@ fn refusals(rt: HostRuntime) -> Result<(), Fail> {
 #[test]
 fn a_path_too_long(rt: HostRuntime) -> Result<(), Fail> {
     let ties = ties(rt)?;
-    let mut tables = blocks(rt)?;
+    let mut tables = tables(rt)?;
     let router = started(&ties, &mut tables);
     let long = Announcement {
         block: 0,
@@ -153,7 +153,7 @@ fn a_path_too_long(rt: HostRuntime) -> Result<(), Fail> {
 #[test]
 fn a_link_that_is_down(rt: HostRuntime) -> Result<(), Fail> {
     let ties = ties(rt)?;
-    let mut tables = blocks(rt)?;
+    let mut tables = tables(rt)?;
     let router = started(&ties, &mut tables);
     let (router, _) = router.turn(&ties, &mut tables, 0, false);
     let (_, answer) = router.hear(&ties, &mut tables, 0, update(0, &[0]));

@@ -37,16 +37,20 @@ lead_on (b ∷ bs) xs p q =
     let h = and_parts (is_ascii_digit b) (all_ascii_digits bs) p in
     ap (λ t. cond t (b ∷ lead (bs ++ xs)) []) h.0 ∙ ap (λ l. b ∷ l) (lead_on bs xs h.1 q)
 
+-- a number of any size, and what follows it
+pub decimal_split : (m n : ℕ) (xs ys : List ℕ) → m < 2 ^ 64 → n < 2 ^ 64 → stops xs ≡ true → stops ys ≡ true → decimal m ++ xs ≡ decimal n ++ ys → (m ≡ n) × (xs ≡ ys)
+decimal_split m n xs ys hm hn sx sy e =
+    let dm = digits_decimal own m hm in
+    let dn = digits_decimal own n hn in
+    let same : decimal m ≡ decimal n = sym (lead_on (decimal m) xs dm sx) ∙ ap lead e ∙ lead_on (decimal n) ys dn sy in
+    (decimal_injective m n hm hn same, append_cancel_left (decimal n) xs ys (sym (ap (λ l. l ++ xs) same) ∙ e))
+
 wide : (n : ℕ) → n < 256 → n < 2 ^ 64
 wide n h = omega arith
 
--- a number, and what follows it
+-- the number of a network, and what follows it
 pub number_split : (m n : ℕ) (xs ys : List ℕ) → m < 256 → n < 256 → stops xs ≡ true → stops ys ≡ true → decimal m ++ xs ≡ decimal n ++ ys → (m ≡ n) × (xs ≡ ys)
-number_split m n xs ys hm hn sx sy e =
-    let dm = digits_decimal own m (wide m hm) in
-    let dn = digits_decimal own n (wide n hn) in
-    let same : decimal m ≡ decimal n = sym (lead_on (decimal m) xs dm sx) ∙ ap lead e ∙ lead_on (decimal n) ys dn sy in
-    (decimal_injective m n (wide m hm) (wide n hn) same, append_cancel_left (decimal n) xs ys (sym (ap (λ l. l ++ xs) same) ∙ e))
+number_split m n xs ys hm hn = decimal_split m n xs ys (wide m hm) (wide n hn)
 
 -- a row of numbers, and the end of the line
 abbrev row : List ℕ → List ℕ

@@ -1,7 +1,9 @@
 -- The words in which it is told what the networks go by. Assumes nothing.
 use Rattle.std.specs.Prelude.{ℕ, List, ◌++◌, codes, decimal}
+use Rattle.text.specs.Dotted.{dotted}
 use Rattle.text.specs.Row.{spelled}
 use Rattle.selection.specs.Choosing.{Choice, nothing, local, via}
+use Rattle.routes.specs.declared.lines.BlockLine.{BlockLine}
 
 -- the line of a network: what it goes by
 abbrev pub route_words : ℕ → Choice → List ℕ
@@ -9,6 +11,7 @@ route_words i nothing = decimal i ++ codes " nothing\n"
 route_words i local = decimal i ++ codes " home\n"
 route_words i (via j path) = (decimal i ++ (codes " by " ++ (decimal j ++ codes " over "))) ++ (spelled path ++ codes "\n")
 
--- the line before those of the networks
-abbrev pub block_words : ℕ → ℕ → List ℕ
-block_words b home = codes "block " ++ (decimal b ++ (codes ", home " ++ (decimal home ++ codes "\n")))
+-- the line before those of the networks: the block, its addresses and its home
+abbrev pub block_words : BlockLine → List ℕ
+block_words l =
+    codes "block " ++ (decimal l.block ++ (codes ", " ++ (dotted l.first.0 ++ (codes " to " ++ (dotted l.last.0 ++ (codes ", home " ++ (decimal l.home ++ codes "\n")))))))

@@ -4,5 +4,5 @@
 mod laws;
 mod lines;
 
-pub use laws::lines_tell_routes;
+pub use laws::{lines_tell_blocks, lines_tell_routes};
 pub use lines::{BlockLine, RouteLine};

@@ -5,7 +5,7 @@ ghost use Rattle.routes.specs.Lines.{block_words, route_words};
 
 use selection::Route;
 use std::fmt;
-use text::Row;
+use text::{Address, Row};
 
 // The line of a network: what it goes by.
 #[derive(Clone, Copy, Debug)]
@@ -29,17 +29,25 @@ impl fmt::Display for RouteLine<'_> {
     }
 }
 
-// The line before those of the networks: a block and its home.
+// The line before those of the networks: a block, the addresses that it has, from the first to the last, and its home.
 #[derive(Clone, Copy, Debug)]
 pub struct BlockLine {
     pub block: u16,
+    pub first: Address,
+    pub last: Address,
     pub home: u8,
 }
 
 impl fmt::Display for BlockLine {
-    ghost output = { λ line. Some (block_words line.block line.home) };
+    ghost output = { λ line. Some (block_words line) };
 
     fn fmt<W: fmt::Write>(&self, f: &mut fmt::Formatter<W>) -> fmt::Result {
-        writeln!(f, "block {}, home {}", self.block, self.home)
+        let BlockLine {
+            block,
+            first,
+            last,
+            home,
+        } = *self;
+        writeln!(f, "block {block}, {first} to {last}, home {home}")
     }
 }

@@ -1,13 +1,16 @@
 -- What is written reads back. Assumes nothing.
-use Rattle.std.proofs.Common.{◌≡◌, ℕ, ◌+◌, ◌-◌, ◌*◌, ◌/◌, ◌%◌, ◌^◌, ◌<◌, Bool, true, false, cond, not, ◌&&◌, ◌||◌, leb, List, [], ◌∷◌, ◌++◌, length, Some, Ok, codes, decimal, sym, refl, ap, ◌∙◌, append-nil, arith}
+use Rattle.std.proofs.Common.{◌≡◌, ℕ, ◌+◌, ◌%◌, ◌^◌, ◌<◌, Bool, true, false, cond, not, ◌&&◌, ◌||◌, leb, List, [], ◌∷◌, ◌++◌, length, Some, Ok, codes, decimal, sym, refl, ap, ◌∙◌, append-nil, arith, length-append}
 use Rattle.std.proofs.lemmas.Fmt.{decimal_by_steps, decimal_nonempty}
 use Rattle.std.proofs.lemmas.Bool.{and_parts, and_from, lt-leb}
 use Rattle.std.proofs.lemmas.Bool.Decides.{nat_tests}
+use Rattle.text.specs.declared.address.Address.{Address}
+use Rattle.text.specs.Dotted.{byte0, byte1, byte2, byte3, dotted}
 use Rattle.script.specs.declared.cause.Cause.TheVariants.{BadByte}
 use Rattle.script.specs.declared.command.Command.{Command}
-use Rattle.script.specs.declared.command.Command.TheVariants.{Turn, Hear, Show, Rest}
+use Rattle.script.specs.declared.command.Command.TheVariants.{Turn, Hear, Send, Show, Rest}
 use Rattle.script.specs.declared.command.Limits.{Limits}
-use Rattle.script.specs.Digits.{is_digit, value, value_after}
+use Rattle.script.specs.Addresses.{address_of}
+use Rattle.script.specs.Digits.{value}
 use Rattle.script.specs.Faults.{is, plain, is_plain, told, words_have}
 use Rattle.script.specs.Laws.{ReadsBack, ScriptReadsBack}
 use Rattle.script.specs.Meaning.{judged, meaning, read_line, read_words}
@@ -16,30 +19,8 @@ use Rattle.script.specs.Whole.{entries_in, noted}
 use Rattle.script.specs.Written.{Within, all_written, said, spaced, written}
 use Rattle.script.proofs.Cuts.{before_on, words_blank, words_last, words_on}
 use Rattle.script.proofs.Entries.{line_by_line}
-use Rattle.script.proofs.Values.{after_digit, after_other}
-
-append_on : (t : Bool) (b : ℕ) (bs ys : List ℕ) (m k : ℕ) → is_digit b ≡ t → value_after m (b ∷ bs) ≡ Some k → ((i : ℕ) → value_after i bs ≡ Some k → value_after i (bs ++ ys) ≡ value_after k ys) → value_after m (b ∷ bs ++ ys) ≡ value_after k ys
-append_on true b bs ys m k e h on = after_digit m b (bs ++ ys) e ∙ on (m * 10 + (b - 48)) (sym (after_digit m b bs e) ∙ h)
-append_on false b bs ys m k e h on =
-    let none = after_other m b bs e in
-    let z : ◌≡◌ {A = ℕ} 0 1 = cc in absurd (omega arith)
-
-after_append : (xs ys : List ℕ) (m k : ℕ) → value_after m xs ≡ Some k → value_after m (xs ++ ys) ≡ value_after k ys
-unfolding value_after
-after_append [] ys m k h = let e : m ≡ k = cc in ap (λ i. value_after i ys) e
-after_append (b ∷ bs) ys m k h = append_on (is_digit b) b bs ys m k refl h (λ i. after_append bs ys i k)
-
-last_digit : (m d n : ℕ) → d < 10 → m * 10 + d ≡ n → value_after m ((48 + d) ∷ []) ≡ Some n
-unfolding value_after
-last_digit m d n h e =
-    let sum : m * 10 + (48 + d - 48) ≡ n = omega arith in
-    after_digit m (48 + d) [] (grind (arith, nat_tests)) ∙ ap (λ v. Some v) sum
-
-pub value_decimal : (n : ℕ) → n < 2 ^ 64 → value (decimal n) ≡ Some n
-value_decimal =
-    decimal_by_steps (λ n ds. value ds ≡ Some n)
-    (λ n h. last_digit 0 n n h (omega arith))
-    (λ n ds h e. after_append ds ((48 + n % 10) ∷ []) 0 (n / 10) e ∙ last_digit (n / 10) (n % 10) n (omega arith) (omega arith))
+use Rattle.script.proofs.Addressed.{address_back}
+use Rattle.script.proofs.Values.{value_decimal}
 
 -- a byte that is neither blank, nor a feed, nor a mark
 abbrev clear : ℕ → Bool
@@ -143,11 +124,25 @@ module _ (limits : Limits) where
   hear_reads : (i j : ℕ) (w v : List ℕ) → value w ≡ Some i → value v ≡ Some j → leb limits.networks i ≡ false → leb limits.networks j ≡ false → read_words limits (codes "hear" ∷ w ∷ v ∷ []) ≡ Ok (Some (Hear i j))
   hear_reads i j w v e f p q = rw (e, f, p, q) refl
 
+  send_reads : (i : ℕ) (a : Address) (w v : List ℕ) → value w ≡ Some i → address_of v ≡ Some a → leb limits.networks i ≡ false → read_words limits (codes "send" ∷ w ∷ v ∷ []) ≡ Ok (Some (Send i a))
+  send_reads i a w v e f p = rw (e, f, p) refl
+
   show_reads : (i : ℕ) (w : List ℕ) → value w ≡ Some i → leb limits.blocks i ≡ false → read_words limits (codes "show" ∷ w ∷ []) ≡ Ok (Some (Show i))
   show_reads i w e p = rw (e, p) refl
 
 number_word : (n : ℕ) → n < 2 ^ 64 → Word (decimal n)
 number_word n h = (clear_decimal n h, decimal_nonempty n h)
+
+-- a number, a dot and what follows it
+clear_dot : (n : ℕ) (rest : List ℕ) → n < 256 → all_clear rest ≡ true → all_clear (decimal n ++ (46 ∷ rest)) ≡ true
+clear_dot n rest h e = clear_append (decimal n) (46 ∷ rest) (clear_decimal n (omega arith)) e
+
+dotted_word : (a : ℕ) → Word (dotted a)
+dotted_word a =
+    let last : all_clear (decimal (byte3 a)) ≡ true = clear_decimal (byte3 a) (omega arith) in
+    let two : all_clear (decimal (byte2 a) ++ (46 ∷ decimal (byte3 a))) ≡ true = clear_dot (byte2 a) _ (omega arith) last in
+    let three : all_clear (decimal (byte1 a) ++ (46 ∷ (decimal (byte2 a) ++ (46 ∷ decimal (byte3 a))))) ≡ true = clear_dot (byte1 a) _ (omega arith) two in
+    (clear_dot (byte0 a) _ (omega arith) three, omega (arith, length-append (decimal (byte0 a)) (46 ∷ (decimal (byte1 a) ++ (46 ∷ (decimal (byte2 a) ++ (46 ∷ decimal (byte3 a))))))))
 
 up_word : (up : Bool) → Word (cond up (codes "up") (codes "down"))
 up_word true = (refl, omega arith)
@@ -156,12 +151,14 @@ up_word false = (refl, omega arith)
 written_holds : (limits : Limits) (c : Command) → limits.networks < 256 → limits.blocks < 65536 → Within limits c → Holds (written c) (said c)
 written_holds limits (Turn i j up) p q h = spaced_holds _ _ (refl, omega arith) (number_word i (omega (arith, h.0)), (number_word j (omega (arith, h.1)), (up_word up, tt)))
 written_holds limits (Hear i j) p q h = spaced_holds _ _ (refl, omega arith) (number_word i (omega (arith, h.0)), (number_word j (omega (arith, h.1)), tt))
+written_holds limits (Send i a) p q h = spaced_holds _ _ (refl, omega arith) (number_word i (omega (arith, h.0)), (dotted_word a.0, tt))
 written_holds limits (Show k) p q h = spaced_holds _ _ (refl, omega arith) (number_word k (omega (arith, h)), tt)
 written_holds limits Rest p q h = spaced_holds _ _ (refl, omega arith) tt
 
 said_reads : (limits : Limits) (c : Command) → limits.networks < 256 → limits.blocks < 65536 → Within limits c → read_words limits (said c) ≡ Ok (Some c)
 said_reads limits (Turn i j up) p q h = turn_reads limits i j _ _ up (value_decimal i (omega (arith, h.0))) (value_decimal j (omega (arith, h.1))) (lt-leb limits.networks i h.0) (lt-leb limits.networks j h.1)
 said_reads limits (Hear i j) p q h = hear_reads limits i j _ _ (value_decimal i (omega (arith, h.0))) (value_decimal j (omega (arith, h.1))) (lt-leb limits.networks i h.0) (lt-leb limits.networks j h.1)
+said_reads limits (Send i a) p q h = send_reads limits i a _ (dotted a.0) (value_decimal i (omega (arith, h.0))) (address_back a h.1) (lt-leb limits.networks i h.0)
 said_reads limits (Show k) p q h = show_reads limits k _ (value_decimal k (omega (arith, h))) (lt-leb limits.blocks k h)
 said_reads limits Rest p q h = refl
 

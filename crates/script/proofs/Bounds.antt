@@ -3,23 +3,25 @@ use Rattle.std.proofs.Common.{◌≡◌, ℕ, ◌+◌, ◌<◌, Bool, true, fals
 use Rattle.std.specs.Option.{option_map}
 use Rattle.std.proofs.lemmas.Bool.{leb-false, or_parts, both_ways}
 use Rattle.script.specs.declared.cause.Cause.{Cause}
-use Rattle.script.specs.declared.cause.Cause.TheVariants.{BadByte, UnknownWord, MissingWord, SurplusWord, NotANumber, NoSuchNetwork, NoSuchBlock}
+use Rattle.script.specs.declared.cause.Cause.TheVariants.{BadByte, UnknownWord, MissingWord, SurplusWord, NotANumber, NotAnAddress, NoSuchNetwork, NoSuchBlock}
 use Rattle.script.specs.declared.command.Command.{Command}
 use Rattle.script.specs.declared.command.Limits.{Limits}
 use Rattle.script.specs.declared.command.Turn.{Turn}
 use Rattle.script.specs.Digits.{value}
-use Rattle.script.specs.Faults.{Part, Verb, block, form, hear, is, line_has, network, part_has, parts_have, reaches, show, rest, state, told, turn, verb, verb_has, words_have}
+use Rattle.script.specs.Faults.{Part, Verb, address, block, form, hear, is, line_has, network, part_has, parts_have, reaches, send, show, rest, state, told, turn, verb, verb_has, words_have}
 use Rattle.script.specs.Meaning.{asked, judged, meaning, number_at, read_line}
 use Rattle.script.specs.Next.{Ahead, Bounded, Reader, ahead_in, reached}
 use Rattle.script.specs.Parts.{Line, content, words}
 use Rattle.script.specs.Turns.{TurnBounded, asked as asked_turn, is_turn, meant, of_networks, read_turn_line, turn_line_has, turns_have}
 use Rattle.script.specs.Written.{Within}
+use Rattle.script.proofs.Addressed.{address_fits}
 
 -- nothing of what counts here is wrong
 pub record Clean (has : Cause → Bool) : Type 0 where
   pub unknown : has UnknownWord ≡ false
   pub missing : has MissingWord ≡ false
   pub number : has NotANumber ≡ false
+  pub address : has NotAnAddress ≡ false
   pub network : has NoSuchNetwork ≡ false
   pub block : has NoSuchBlock ≡ false
 
@@ -34,9 +36,10 @@ clean has e =
     let c = first_none (has MissingWord) _ _ b.1 in
     let d = first_none (has SurplusWord) _ _ c.1 in
     let f = first_none (has NotANumber) _ _ d.1 in
-    let g = first_none (has NoSuchNetwork) _ _ f.1 in
+    let k = first_none (has NotAnAddress) _ _ f.1 in
+    let g = first_none (has NoSuchNetwork) _ _ k.1 in
     let h = first_none (has NoSuchBlock) _ _ g.1 in
-    record { unknown = b.0; missing = c.0; number = f.0; network = g.0; block = h.0 }
+    record { unknown = b.0; missing = c.0; number = f.0; address = k.0; network = g.0; block = h.0 }
 
 -- a number that is one, and does not reach the limit
 below : (limit : ℕ) (o : Option ℕ) → not (is_some o) ≡ false → reaches limit o ≡ false → unwrap_or o 0 < limit
@@ -58,6 +61,14 @@ module _ (limits : Limits) where
   verb_within turn ws h = pair_below (state ∷ []) ws h
   verb_within hear ws h = pair_below [] ws h
   verb_within rest ws h = tt
+  verb_within send [] h = absurd (both_ways true h.missing refl)
+  verb_within send (w ∷ []) h = absurd (both_ways true h.missing refl)
+  verb_within send (w ∷ v ∷ vs) h =
+      let number = or_parts (part_has limits network w NotANumber) _ h.number in
+      let reach = or_parts (part_has limits network w NoSuchNetwork) _ h.network in
+      let other = or_parts (part_has limits network w NotAnAddress) _ h.address in
+      let dotted = or_parts (part_has limits address v NotAnAddress) _ other.1 in
+      (below limits.networks (value w) (or_parts (not (is_some (value w))) false number.0).0 reach.0, address_fits v dotted.0)
   verb_within show [] h = absurd (both_ways true h.missing refl)
   verb_within show (w ∷ ws) h =
       let number = or_parts (part_has limits block w NotANumber) _ h.number in
@@ -80,11 +91,11 @@ pub line_within : (limits : Limits) (l : List ℕ) (c : Command) → read_line l
 line_within limits l c e =
     let h = judged_ok (told (line_has limits l)) _ _ e in
     let line = clean (line_has limits l) h.0 in
-    words_within limits (words (content l)) c (record { unknown = line.unknown; missing = line.missing; number = line.number; network = line.network; block = line.block }) h.1
+    words_within limits (words (content l)) c (record { unknown = line.unknown; missing = line.missing; number = line.number; address = line.address; network = line.network; block = line.block }) h.1
 
 module _ (n : ℕ) where
   first_within : (t : Bool) (ws : List (List ℕ)) → Clean (λ c. cond t (parts_have (of_networks n) (form turn) ws c) (is c UnknownWord)) → ((asked_turn ws).first < n) × ((asked_turn ws).second < n)
-  first_within true ws h = pair_below (of_networks n) (state ∷ []) ws (record { unknown = h.unknown; missing = h.missing; number = h.number; network = h.network; block = h.block })
+  first_within true ws h = pair_below (of_networks n) (state ∷ []) ws (record { unknown = h.unknown; missing = h.missing; number = h.number; address = h.address; network = h.network; block = h.block })
   first_within false ws h = absurd (both_ways true h.unknown refl)
 
   turns_within : (ws : List (List ℕ)) → Clean (turns_have n ws) → TurnBounded n (Ok (meant ws))
@@ -98,7 +109,7 @@ module _ (n : ℕ) where
   pub turn_line_within : (l : List ℕ) → TurnBounded n (read_turn_line n l)
   turn_line_within l = judged_within (told (turn_line_has n l)) (meant (words (content l))) (λ e.
       let line = clean (turn_line_has n l) e in
-      turns_within (words (content l)) (record { unknown = line.unknown; missing = line.missing; number = line.number; network = line.network; block = line.block }))
+      turns_within (words (content l)) (record { unknown = line.unknown; missing = line.missing; number = line.number; address = line.address; network = line.network; block = line.block }))
 
 bounded : (limits : Limits) (r : Result (Option Command) Cause) → ((c : Command) → r ≡ Ok (Some c) → Within limits c) → Bounded limits r
 bounded limits (Ok None) h = tt

@@ -1,5 +1,7 @@
 pub mod Cuts
 pub mod Values
+pub mod Dots
+pub mod Addressed
 pub mod Named
 pub mod Steps
 pub mod Entries

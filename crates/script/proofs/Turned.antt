@@ -9,7 +9,7 @@ use Rattle.script.specs.declared.command.Command.{Command}
 use Rattle.script.specs.declared.command.Command.TheVariants as command
 use Rattle.script.specs.declared.command.Limits.{Limits}
 use Rattle.script.specs.declared.command.Turn.{Turn}
-use Rattle.script.specs.Faults.{Verb, form, hear, is, line_has, parts_have, plain, rest, show, told, turn, verb, verb_has, words_have}
+use Rattle.script.specs.Faults.{Verb, form, hear, is, line_has, parts_have, plain, rest, send, show, told, turn, verb, verb_has, words_have}
 use Rattle.script.specs.Laws.{OtherCommands, OthersUnknown, TurnsAlone, TurnsAsInScripts, TurnsLineByLine, TurnsNextByNext}
 use Rattle.script.specs.Meaning.{asked, judged, meaning, read_line}
 use Rattle.script.specs.Parts.{Line, content, lines, words}
@@ -66,18 +66,20 @@ not_turn : (limits : Limits) (o : Option Verb) (ws : List (List ℕ)) → o ≢ 
 not_turn limits None ws h e = absurd (both_ways true e refl)
 not_turn limits (Some turn) ws h e = absurd (h refl)
 not_turn limits (Some hear) ws h e = ((λ q. let z : ◌≡◌ {A = ℕ} 0 1 = cc in absurd (omega arith)), (λ t q. let z : ◌≡◌ {A = ℕ} 0 1 = cc in absurd (omega arith)))
+not_turn limits (Some send) ws h e = ((λ q. let z : ◌≡◌ {A = ℕ} 0 1 = cc in absurd (omega arith)), (λ t q. let z : ◌≡◌ {A = ℕ} 0 1 = cc in absurd (omega arith)))
 not_turn limits (Some show) ws h e = ((λ q. let z : ◌≡◌ {A = ℕ} 0 1 = cc in absurd (omega arith)), (λ t q. let z : ◌≡◌ {A = ℕ} 0 1 = cc in absurd (omega arith)))
 not_turn limits (Some rest) ws h e = ((λ q. let z : ◌≡◌ {A = ℕ} 0 1 = cc in absurd (omega arith)), (λ t q. let z : ◌≡◌ {A = ℕ} 0 1 = cc in absurd (omega arith)))
 
 -- a word that is not `turn` names something else, or nothing
-other_verb : (a b c : Bool) → cond a (Some hear) (cond b (Some show) (cond c (Some rest) None)) ≢ Some turn
-other_verb true b c q = let z : ◌≡◌ {A = ℕ} 0 1 = cc in absurd (omega arith)
-other_verb false true c q = let z : ◌≡◌ {A = ℕ} 0 1 = cc in absurd (omega arith)
-other_verb false false true q = let z : ◌≡◌ {A = ℕ} 0 1 = cc in absurd (omega arith)
-other_verb false false false q = let z : ◌≡◌ {A = ℕ} 0 1 = cc in absurd (omega arith)
+other_verb : (a b c d : Bool) → cond a (Some hear) (cond b (Some send) (cond c (Some show) (cond d (Some rest) None))) ≢ Some turn
+other_verb true b c d q = let z : ◌≡◌ {A = ℕ} 0 1 = cc in absurd (omega arith)
+other_verb false true c d q = let z : ◌≡◌ {A = ℕ} 0 1 = cc in absurd (omega arith)
+other_verb false false true d q = let z : ◌≡◌ {A = ℕ} 0 1 = cc in absurd (omega arith)
+other_verb false false false true q = let z : ◌≡◌ {A = ℕ} 0 1 = cc in absurd (omega arith)
+other_verb false false false false q = let z : ◌≡◌ {A = ℕ} 0 1 = cc in absurd (omega arith)
 
 no_turn_verb : (w : List ℕ) → is_turn w ≡ false → verb w ≢ Some turn
-no_turn_verb w h q = other_verb (bytes_eq w (codes "hear")) (bytes_eq w (codes "show")) (bytes_eq w (codes "rest")) (sym (cond-false (is_turn w) _ _ h) ∙ q)
+no_turn_verb w h q = other_verb (bytes_eq w (codes "hear")) (bytes_eq w (codes "send")) (bytes_eq w (codes "show")) (bytes_eq w (codes "rest")) (sym (cond-false (is_turn w) _ _ h) ∙ q)
 
 -- a line that is read as something, and does not begin with `turn`
 closed_words : (limits : Limits) (ws : List (List ℕ)) → opens ws ≡ false → words_have limits ws UnknownWord ≡ false → (meaning ws ≢ None) × ((t : Turn) → meaning ws ≢ Some (as_command t))
@@ -119,6 +121,7 @@ other_commands_lem limits line c = other_by (opens (words (content line))) limit
 abbrev turn_of : Command → Turn
 turn_of (command.Turn i j up) = record { first = i; second = j; up = up }
 turn_of (command.Hear i j) = record { first = i; second = j; up = false }
+turn_of (command.Send i a) = record { first = i; second = i; up = false }
 turn_of (command.Show b) = record { first = b; second = b; up = false }
 turn_of command.Rest = record { first = 0; second = 0; up = false }
 

@@ -3,8 +3,9 @@ use Rattle.std.specs.Prelude.{ℕ, Bool, true, false, cond, not, ◌&&◌, ◌||
 use Rattle.std.specs.List.{find, list_all}
 use Rattle.std.specs.Str.{bytes_eq}
 use Rattle.script.specs.declared.cause.Cause.{Cause}
-use Rattle.script.specs.declared.cause.Cause.TheVariants.{BadByte, UnknownWord, MissingWord, SurplusWord, NotANumber, NoSuchNetwork, NoSuchBlock}
+use Rattle.script.specs.declared.cause.Cause.TheVariants.{BadByte, UnknownWord, MissingWord, SurplusWord, NotANumber, NotAnAddress, NoSuchNetwork, NoSuchBlock}
 use Rattle.script.specs.declared.command.Limits.{Limits}
+use Rattle.script.specs.Addresses.{address_of}
 use Rattle.script.specs.Digits.{value}
 use Rattle.script.specs.Parts.{content, is_blank, words}
 
@@ -15,12 +16,13 @@ number UnknownWord = 1
 number MissingWord = 1
 number SurplusWord = 1
 number NotANumber = 1
+number NotAnAddress = 1
 number NoSuchNetwork = 2
 number NoSuchBlock = 2
 
 -- all causes, in the order in which they are told: by number, and those of one number as listed
 abbrev pub causes : List Cause
-causes = BadByte ∷ UnknownWord ∷ MissingWord ∷ SurplusWord ∷ NotANumber ∷ NoSuchNetwork ∷ NoSuchBlock ∷ []
+causes = BadByte ∷ UnknownWord ∷ MissingWord ∷ SurplusWord ∷ NotANumber ∷ NotAnAddress ∷ NoSuchNetwork ∷ NoSuchBlock ∷ []
 
 -- the first of the causes that a line has
 abbrev pub told : (Cause → Bool) → Option Cause
@@ -32,8 +34,9 @@ place UnknownWord = 1
 place MissingWord = 2
 place SurplusWord = 3
 place NotANumber = 4
-place NoSuchNetwork = 5
-place NoSuchBlock = 6
+place NotAnAddress = 5
+place NoSuchNetwork = 6
+place NoSuchBlock = 7
 
 -- two causes are one
 abbrev pub is : Cause → Cause → Bool
@@ -43,6 +46,7 @@ is c d = place c == place d
 pub data Verb : Type 0 where
   turn : Verb
   hear : Verb
+  send : Verb
   show : Verb
   rest : Verb
 
@@ -50,18 +54,21 @@ abbrev pub verb : List ℕ → Option Verb
 verb w =
     cond (bytes_eq w (codes "turn")) (Some turn)
     (cond (bytes_eq w (codes "hear")) (Some hear)
+    (cond (bytes_eq w (codes "send")) (Some send)
     (cond (bytes_eq w (codes "show")) (Some show)
-    (cond (bytes_eq w (codes "rest")) (Some rest) None)))
+    (cond (bytes_eq w (codes "rest")) (Some rest) None))))
 
--- what the words after the first are: the number of a network or a block, or how a link stands
+-- what the words after the first are: the number of a network or a block, an address, or how a link stands
 pub data Part : Type 0 where
   network : Part
   block : Part
+  address : Part
   state : Part
 
 abbrev pub form : Verb → List Part
 form turn = network ∷ network ∷ state ∷ []
 form hear = network ∷ network ∷ []
+form send = network ∷ address ∷ []
 form show = block ∷ []
 form rest = []
 
@@ -78,6 +85,7 @@ reaches limit (Some v) = nat_le limit v
 abbrev pub part_has : Limits → Part → List ℕ → Cause → Bool
 part_has limits network w c = (is c NotANumber && not (is_some (value w))) || (is c NoSuchNetwork && reaches limits.networks (value w))
 part_has limits block w c = (is c NotANumber && not (is_some (value w))) || (is c NoSuchBlock && reaches limits.blocks (value w))
+part_has limits address w c = is c NotAnAddress && not (is_some (address_of w))
 part_has limits state w c = is c UnknownWord && not (is_some (standing w))
 
 -- what is wrong with the words after the first

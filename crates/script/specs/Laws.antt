@@ -1,9 +1,12 @@
 -- What holds of every script. Assumes nothing.
-use Rattle.std.specs.Prelude.{◌≡◌, ◌≢◌, ℕ, ◌+◌, ◌<◌, true, false, cond, List, ◌∷◌, ◌++◌, Some, Ok, Err}
+use Rattle.std.specs.Prelude.{◌≡◌, ◌≢◌, ℕ, ◌+◌, ◌^◌, ◌<◌, true, false, cond, List, ◌∷◌, ◌++◌, Some, Ok, Err}
+use Rattle.text.specs.Dotted.{dotted}
+use Rattle.text.specs.declared.address.Address.{Address}
 use Rattle.script.specs.declared.cause.Cause.TheVariants.{BadByte, UnknownWord}
 use Rattle.script.specs.declared.command.Command.{Command}
 use Rattle.script.specs.declared.command.Limits.{Limits}
 use Rattle.script.specs.declared.command.Turn.{Turn}
+use Rattle.script.specs.Addresses.{address_read}
 use Rattle.script.specs.Faults.{plain}
 use Rattle.script.specs.Meaning.{read_line}
 use Rattle.script.specs.Next.{ahead}
@@ -15,6 +18,10 @@ use Rattle.script.specs.Written.{AllWithin, Within, all_written, written}
 -- a command that is written out reads back as itself
 abbrev pub ReadsBack : Type 0
 ReadsBack = (limits : Limits) (c : Command) → limits.networks < 256 → limits.blocks < 65536 → Within limits c → read_line limits (written c) ≡ Ok (Some c)
+
+-- the dotted form of an address of 32 bits reads back as that address
+abbrev pub AddressReadsBack : Type 0
+AddressReadsBack = (a : Address) → a.0 < 2 ^ 32 → address_read (dotted a.0) ≡ Ok a
 
 -- a comment changes nothing
 abbrev pub CommentsSayNothing : Type 0

@@ -1,5 +1,6 @@
 pub mod Parts
 pub mod Digits
+pub mod Addresses
 pub mod Faults
 pub mod Meaning
 pub mod Next

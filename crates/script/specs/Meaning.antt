@@ -1,13 +1,15 @@
 -- What a line says. Assumes nothing.
 use Rattle.std.specs.Prelude.{ℕ, Bool, false, List, [], ◌∷◌, Some, None, Ok, Err, Option, Result, slice_index_or}
 use Rattle.std.specs.Option.{option_map, unwrap_or}
+use Rattle.text.specs.declared.address.Address.{Address}
 use Rattle.script.specs.declared.cause.Cause.{Cause}
 use Rattle.script.specs.declared.cause.Cause.TheVariants.{UnknownWord}
 use Rattle.script.specs.declared.command.Command.{Command}
-use Rattle.script.specs.declared.command.Command.TheVariants.{Turn, Hear, Show, Rest}
+use Rattle.script.specs.declared.command.Command.TheVariants.{Turn, Hear, Send, Show, Rest}
 use Rattle.script.specs.declared.command.Limits.{Limits}
+use Rattle.script.specs.Addresses.{address_of}
 use Rattle.script.specs.Digits.{value}
-use Rattle.script.specs.Faults.{Verb, turn, hear, show, rest, form, line_has, parts_have, standing, told, verb, words_have}
+use Rattle.script.specs.Faults.{Verb, turn, hear, send, show, rest, form, line_has, parts_have, standing, told, verb, words_have}
 use Rattle.script.specs.Parts.{content, words}
 
 -- the number that word k is
@@ -17,10 +19,14 @@ number_at ws k = unwrap_or (value (slice_index_or ws k [])) 0
 abbrev pub up_at : List (List ℕ) → ℕ → Bool
 up_at ws k = unwrap_or (standing (slice_index_or ws k [])) false
 
+abbrev pub address_at : List (List ℕ) → ℕ → Address
+address_at ws k = unwrap_or (address_of (slice_index_or ws k [])) (record { 0 = 0 })
+
 -- the command, by the words after the first
 abbrev pub asked : Verb → List (List ℕ) → Command
 asked turn ws = Turn (number_at ws 0) (number_at ws 1) (up_at ws 2)
 asked hear ws = Hear (number_at ws 0) (number_at ws 1)
+asked send ws = Send (number_at ws 0) (address_at ws 1)
 asked show ws = Show (number_at ws 0)
 asked rest ws = Rest
 

@@ -10,6 +10,8 @@ pub enum Cause {
     SurplusWord,
     // a word that should be a number has a byte that is no digit
     NotANumber,
+    // a word that should be an address is not four numbers up to 255 with dots between them
+    NotAnAddress,
     NoSuchNetwork,
     NoSuchBlock,
 }

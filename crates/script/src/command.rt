@@ -2,12 +2,16 @@
 ghost use Rattle.std.specs.Prelude.{◌≡◌};
 ghost use Rattle.script.specs.Turns.{as_command};
 
+use text::Address;
+
 #[derive(Clone, Copy, Debug, PartialEq, Eq)]
 pub enum Command {
     // the link of two networks comes up or goes down
     Turn { first: u8, second: u8, up: bool },
     // `to` hears the oldest thing in flight from `from`
     Hear { from: u8, to: u8 },
+    // the people of a network send a packet
+    Send { network: u8, address: Address },
     Show { block: u16 },
     // everything that is in flight is heard
     Rest,

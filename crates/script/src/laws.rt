@@ -1,9 +1,14 @@
 // What holds of every script: a law is the contract of a function that does nothing.
-ghost use Rattle.script.specs.Laws.{CommentsSayNothing, LineByLine, NextByNext, OtherCommands, OthersUnknown, ReadsBack, ScriptReadsBack, TurnsAlone, TurnsAsInScripts, TurnsLineByLine, TurnsNextByNext};
+ghost use Rattle.script.specs.Laws.{AddressReadsBack, CommentsSayNothing, LineByLine, NextByNext, OtherCommands, OthersUnknown, ReadsBack, ScriptReadsBack, TurnsAlone, TurnsAsInScripts, TurnsLineByLine, TurnsNextByNext};
 
 // A command that is written out reads back as itself.
 pub fn written_reads_back()
     ensures { ReadsBack }
+{}
+
+// The dotted form of an address reads back as that address.
+pub fn addresses_read_back()
+    ensures { AddressReadsBack }
 {}
 
 // A comment changes nothing.

@@ -1,12 +1,14 @@
 // Reading one line.
 ghost use Rattle.std.specs.Prelude.{◌≡◌};
-ghost use Rattle.script.specs.Faults.{hear, show, verb};
+ghost use Rattle.script.specs.Faults.{hear, send, show, verb};
 ghost use Rattle.script.specs.Meaning.{read_line as line_says, read_named as named_says, read_verb, read_words as words_say};
 ghost use Rattle.script.specs.Parts.{words};
 
+use crate::addresses::read_address;
 use crate::cause::Cause;
 use crate::command::{Command, Limits};
 use crate::cut::split_word;
+use crate::naming::network;
 use crate::numbers::number;
 use crate::parts::{next_word, no_more, pair, plain_content};
 use crate::turns::read_turn;
@@ -20,6 +22,19 @@ fn read_hear(rest: &[u8], limits: Limits) -> Result<Command, Cause>
     no_more(rest)?;
     let (from, to) = pair(from, to, limits.networks)?;
     Ok(Command::Hear { from, to })
+}
+
+// `send I ADDRESS`, behind the first word.
+fn read_send(rest: &[u8], limits: Limits) -> Result<Command, Cause>
+    ensures { result ≡ read_verb limits send (words rest.now) }
+{
+    let (sender, rest) = next_word(rest)?;
+    let (address, rest) = next_word(rest)?;
+    no_more(rest)?;
+    let sender = number(sender)?;
+    let address = read_address(address)?;
+    let network = network(sender, limits.networks)?;
+    Ok(Command::Send { network, address })
 }
 
 // `show B`, behind the first word.
@@ -42,6 +57,7 @@ fn read_named(name: &[u8], rest: &[u8], limits: Limits) -> Result<Command, Cause
     match name {
         b"turn" => read_turn(rest, limits.networks).map(Command::from),
         b"hear" => read_hear(rest, limits),
+        b"send" => read_send(rest, limits),
         b"show" => read_show(rest, limits),
         b"rest" => {
             no_more(rest)?;

@@ -17,7 +17,8 @@ impl Numbered for Cause {
             | Cause::UnknownWord
             | Cause::MissingWord
             | Cause::SurplusWord
-            | Cause::NotANumber => 1,
+            | Cause::NotANumber
+            | Cause::NotAnAddress => 1,
             Cause::NoSuchNetwork | Cause::NoSuchBlock => 2,
         }
     }
@@ -34,6 +35,7 @@ impl Cause {
             Cause::MissingWord => "a missing word",
             Cause::SurplusWord => "a surplus word",
             Cause::NotANumber => "not a number",
+            Cause::NotAnAddress => "not an address",
             Cause::NoSuchNetwork => "a network not below n",
             Cause::NoSuchBlock => "no such block",
         }

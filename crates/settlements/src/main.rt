@@ -1,4 +1,4 @@
-// settlements (TIES LINES HOME)... [TIES]: settles several times, and says of each what every network goes by, or why it
+// settlements (TIES BLOCKS LINES)... [TIES]: settles several times, and says of each what every network goes by, or why it
 // is refused; of ties that stand alone at the end, whether they are sound.
 #![tactic(auto)]
 
@@ -6,14 +6,14 @@ use settling::{Failure, check, perform, words};
 use std::io;
 use std::process::ExitCode;
 
-const USAGE: &str = "usage: settlements (TIES LINES HOME)... [TIES]";
+const USAGE: &str = "usage: settlements (TIES BLOCKS LINES)... [TIES]";
 
 // Settles once, by three words; of one word the ties are checked.
 fn tell(rt: &HostRuntime, words: &[String]) -> io::Result<()> {
     let told = match words {
-        [ties, lines, home] => {
-            println!(rt; "{ties} {lines} {home}")?;
-            perform(rt, ties.as_str(), lines.as_str(), &words[2..])
+        [ties, blocks, lines] => {
+            println!(rt; "{ties} {blocks} {lines}")?;
+            perform(rt, ties.as_str(), blocks.as_str(), lines.as_str())
         }
         [ties] => {
             println!(rt; "{ties}")?;

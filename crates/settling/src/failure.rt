@@ -1,12 +1,10 @@
 // What ends a program with status 1, and the line that tells it.
-use homes::HomeRefusal;
 use lines::Cause;
 use script::Line;
 use std::alloc::AllocError;
 use std::error::Error;
 use std::{fmt, io};
 use text::Fault;
-use ties::Refusal;
 
 // Of standard input, or of a write, that fails another line than in the programs that play scripts, so that it shares
 // neither this nor `load` with them. By hand, and not by `thiserror`, which would be one crate more for ten lines.
@@ -15,8 +13,8 @@ pub enum Failure {
     // how the program is to be called
     Usage(&'static str),
     Unreadable { path: String, error: io::Error },
-    Ties(Refusal),
-    Homes(HomeRefusal),
+    Ties(ties::Refusal),
+    Blocks(blockfile::Refusal),
     Lines(Fault<Line, Cause>),
     // no memory, or nothing could be written
     Silent,
@@ -28,7 +26,7 @@ impl fmt::Display for Failure {
             Failure::Usage(usage) => write!(f, "{usage}"),
             Failure::Unreadable { path, error } => write!(f, "{path}: {error}"),
             Failure::Ties(refusal) => write!(f, "ties: {refusal}"),
-            Failure::Homes(refusal) => write!(f, "home: {refusal}"),
+            Failure::Blocks(refusal) => write!(f, "blocks: {refusal}"),
             Failure::Lines(fault) => write!(f, "lines: {fault}"),
             Failure::Silent => write!(f, "out of memory, or the output is closed"),
         }

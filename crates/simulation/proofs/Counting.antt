@@ -1,35 +1,43 @@
 -- How many updates are in flight: as many as there are letters. Assumes nothing.
 use Rattle.std.proofs.Common.{◌≡◌, ℕ, zero, suc, ◌+◌, ◌<◌, Bool, true, false, cond, ◌&&◌, ◌||◌, eqb, ltb, List, [], ◌∷◌, ◌++◌, length, take, drop, Some, None, Option, sym, refl, ap, ◌∙◌, arith}
-use lib.ListN.{length-map}
 use lib.Seq.{drop-nil}
+use Rattle.std.specs.List.{filter}
 use Rattle.std.proofs.lemmas.Bool.{and_parts, ltb-true}
 use Rattle.std.proofs.lemmas.Bool.Decides.{nat_tests}
 use Rattle.links.specs.Hearing.{unless}
 use Rattle.links.specs.Local.{Local, gather, outbox, sends, tells_now}
-use Rattle.links.specs.Run.{update}
+use Rattle.links.specs.Run.{Item, update}
 use Rattle.links.specs.World.{World}
 use Rattle.links.specs.declared.fault.Fault.{Fault}
 use Rattle.convergence.specs.Measure.{sum}
 use Rattle.convergence.proofs.Sums.{sum_add, sum_none, sum_place, sum_same}
+use Rattle.mail.specs.Posting.{is_update}
 use Rattle.mail.specs.Posts.{Post, between, cut, flying, goes, inside, mail}
+use Rattle.simulation.specs.Steps.{updates_in}
 use Rattle.mail.proofs.Mailed.{mail_outbox}
 
 one_more : {X : Type 0} (b : Bool) (x : X) (xs : List X) → length (cond b (x ∷ xs) xs) ≡ cond b 1 0 + length xs
 one_more true x xs = omega arith
 one_more false x xs = omega arith
 
+-- one item more, if it goes there
+one_in : (b : Bool) (x : Item) (xs : List Item) → updates_in (cond b (x ∷ xs) xs) ≡ cond b (cond (is_update x) 1 0) 0 + updates_in xs
+one_in true x xs = one_more (is_update x) x (filter is_update xs)
+one_in false x xs = omega arith
+
 turned_test : (a b c d : ℕ) → (eqb a b && eqb c d) ≡ (eqb b a && eqb d c)
 turned_test a b c d = grind (arith, nat_tests)
 
-pub counted : (n : ℕ) (ps : List Post) → inside n ps ≡ true → sum n (λ i. sum n (λ j. length (flying ps i j))) ≡ length ps
+-- as many updates are in flight between all networks as were sent and are not heard yet
+pub counted : (n : ℕ) (ps : List Post) → inside n ps ≡ true → sum n (λ i. sum n (λ j. updates_in (flying ps i j))) ≡ length (filter (λ p. is_update p.what) ps)
 counted n [] h = sum_same n _ _ (λ i l. sum_none n) ∙ sum_none n
 counted n (p ∷ ps) h =
     let parts = and_parts (ltb p.from n && ltb p.to n) (inside n ps) h in
     let ends = and_parts (ltb p.from n) (ltb p.to n) parts.0 in
-    sum_same n _ _ (λ i l. sum_same n _ _ (λ j m. length-map (between i j (p ∷ ps)) update ∙ one_more (goes i j p) p.what (between i j ps) ∙ (λ x. cond (turned_test p.from i p.to j x) 1 0 + sym (length-map (between i j ps) update) x)) ∙ sum_add n _ _) ∙
+    sum_same n _ _ (λ i l. sum_same n _ _ (λ j m. one_in (goes i j p) p.what (between i j ps) ∙ (λ x. cond (turned_test p.from i p.to j x) (cond (is_update p.what) 1 0) 0 + updates_in (between i j ps))) ∙ sum_add n _ _) ∙
     sum_add n _ _ ∙
-    (λ x. sum_place n p.from p.to 1 (ltb-true p.from n ends.0) (ltb-true p.to n ends.1) x + counted n ps parts.1 x) ∙
-    omega arith
+    (λ x. sum_place n p.from p.to (cond (is_update p.what) 1 0) (ltb-true p.from n ends.0) (ltb-true p.to n ends.1) x + counted n ps parts.1 x) ∙
+    sym (one_more (is_update p.what) p (filter (λ q. is_update q.what) ps))
 
 -- every sender and hearer is there, after each step
 pub inside_append : (n : ℕ) (ps qs : List Post) → inside n ps ≡ true → inside n qs ≡ true → inside n (ps ++ qs) ≡ true
@@ -70,4 +78,4 @@ inside_one n i k false p e f l m = refl
 
 pub inside_mail : (w : World) (i : ℕ) (these : ℕ → Bool) (s : Local) (f : Option Fault) → i < w.n → inside w.n (mail i (unless f [] (outbox w i these s))) ≡ true
 inside_mail w i these s (Some fault) l = refl
-inside_mail w i these s None l = ap (inside w.n) (mail_outbox w i these s) ∙ inside_gather w.n _ w.blocks (λ b h. inside_gather w.n _ w.n (λ k m. inside_one w.n i k (sends w i these s b k) (record { from = i; to = k; what = record { block = b; says = tells_now w i s b k } }) refl refl l m))
+inside_mail w i these s None l = ap (inside w.n) (mail_outbox w i these s) ∙ inside_gather w.n _ w.blocks (λ b h. inside_gather w.n _ w.n (λ k m. inside_one w.n i k (sends w i these s b k) (record { from = i; to = k; what = update (record { block = b; says = tells_now w i s b k }) }) refl refl l m))

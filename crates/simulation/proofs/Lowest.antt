@@ -1,13 +1,11 @@
 -- The lowest pair that has a letter. Assumes nothing.
 use Rattle.std.proofs.Common.{◌≡◌, None, Option, vec_items, ℕ, zero, suc, ◌<◌, Bool, true, false, cond, ◌&&◌, ◌||◌, eqb, ltb, List, [], ◌∷◌, length, get_or, Some, sym, refl, ap, ◌∙◌, subst, ⊎_elim, arith}
-use lib.ListN.{length-map}
 use Rattle.std.specs.Ordering.{is_lt, nat_cmp, ordering_then}
 use Rattle.std.specs.declared.cmp.Ordering.TheVariants.{Less, Equal, Greater}
 use Rattle.std.proofs.lemmas.Bool.{and_parts, cases_Bool, eq-eqb}
 use Rattle.std.proofs.lemmas.Bool.Decides.{nat_tests}
-use Rattle.links.specs.Run.{update}
 use Rattle.mail.specs.Posting.{Oldest, blank}
-use Rattle.mail.specs.Posts.{Post, between, flying, goes, inside, meant, posts}
+use Rattle.mail.specs.Posts.{Post, between, goes, inside, meant, posts}
 use Rattle.simulation.specs.Resting.{Foremost, LowestEnds, LowestOf, lower}
 use Rattle.std.specs.Option.{MatchOption}
 use Rattle.relations.specs.Sound.{networks}
@@ -64,9 +62,6 @@ ends_inside n i j (p ∷ ps) e h =
     here : (f t : ℕ) (rest : Bool) → (eqb f i && eqb t j) ≡ true → ((ltb f n && ltb t n) && rest) ≡ true → (ltb i n && ltb j n) ≡ true
     here f t rest b e = grind (arith, nat_tests)
 
-pub flies : (ps : List Post) (i j : ℕ) → 0 < length (between i j ps) → 0 < length (flying ps i j)
-flies ps i j h = omega (arith, length-map (between i j ps) update)
-
 -- the oldest of the lowest pair, if it has one
 pub foremost : (x : Simulation) (i j : ℕ) → LowestOf (posts (vec_items x.letters)) (Some (i, j)) → (o : Option ℕ) → MatchOption o (between i j (posts (vec_items x.letters)) ≡ []) (λ k. Oldest i j k (vec_items x.letters)) → MatchOption o (posts (vec_items x.letters) ≡ []) (Foremost x)
 foremost x i j low None none = absurd (omega (arith, low.0, ap length none))
@@ -76,7 +71,7 @@ foremost x i j low (Some k) old =
     let ends : Path (ℕ × ℕ) (i, j) ((letter_of x k).from, (letter_of x k).to) = λ z. (sym e.0 z, sym e.1 z) in
     record {
       below = subst (λ p. both (world_of x) p.0 p.1 ≡ true) ends (ends_inside (networks x.relations) i j (posts ls) x.within low.0);
-      some = subst (λ p. 0 < length ((state_of x).flight p.0 p.1)) ends (flies (posts ls) i j low.0);
+      some = subst (λ p. 0 < length ((state_of x).flight p.0 p.1)) ends low.0;
       lowest = subst (λ p. LowestOf (posts ls) (Some p)) ends low;
       oldest = oldest_between i j k ls old;
     }
@@ -87,5 +82,5 @@ oldest_inside x k l is old =
     let ls = vec_items x.letters in
     let i = (letter_of x k).from in
     let j = (letter_of x k).to in
-    let some : 0 < length (between i j (posts ls)) = omega (arith, heard_some i j k _ ls (oldest_front i j k ls old), length-map (between i j (posts ls)) update) in
+    let some : 0 < length (between i j (posts ls)) = heard_some i j k _ ls (oldest_front i j k ls old) in
     subst (λ z. both (world_of x) z.from z.to ≡ true) (sym is) (ends_inside (networks x.relations) i j (posts ls) x.within some)

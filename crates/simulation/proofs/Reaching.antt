@@ -1,48 +1,52 @@
 -- Each step leads to a state of a run. Assumes nothing.
-use Rattle.std.proofs.Common.{◌≡◌, ℕ, ◌<◌, Bool, true, ltb, List, [], ◌∷◌, length, sym, refl, ap, ◌∙◌, set, vec_items, subst, true≢false, arith}
+use Rattle.std.proofs.Common.{◌≡◌, ℕ, ◌<◌, Bool, true, ltb, List, [], ◌∷◌, length, Option, sym, refl, ap, ◌∙◌, subst, true≢false, arith}
 use mathlib.Core.Logic.{∥∥₁_map}
 use Rattle.std.proofs.lemmas.Bool.{and_parts, ltb-true}
-use Rattle.relations.specs.Sound.{networks}
 use Rattle.relations.specs.declared.relation.Relation.TheVariants.{Unrelated}
 use Rattle.selection.specs.Choosing.{related}
-use Rattle.links.specs.Run.{Item, Move, Reach, State, change, hears, move, turned, turns}
+use Rattle.links.specs.Run.{Item, Move, Reach, State, change, hears, move, posted, send, sends, turned, turns}
+use Rattle.links.specs.Promise.{Lookup}
 use Rattle.links.specs.World.{World}
-use Rattle.simulation.specs.Simulated.{Aside, Ready, state_of, world_of}
-use Rattle.mail.specs.declared.letter.Letter.{Letter}
-use Rattle.mail.specs.declared.network.Network.{Network}
+use Rattle.simulation.specs.Simulated.{Makes, MakesHeard, MakesSent, Ready, lookup_of, state_of, world_of}
+use Rattle.forwarding.specs.Ends.{Ended}
+use Rattle.simulation.specs.declared.aside.Aside.{Aside}
 use Rattle.simulation.specs.declared.simulation.Simulation.{Simulation}
 use Rattle.simulation.specs.Steps.{both, first_heard, hearing}
-use Rattle.mail.specs.Whole.{nowhere, number_of, whole}
 
 -- hearing where something is in flight is a move
-pub heard_move : (w : World) (i j : ℕ) (s : State) → both w i j ≡ true → 0 < length (s.flight i j) → Move w nowhere s (hearing w i j s)
-heard_move w i j s h some = by_first (s.flight i j) refl some
+pub heard_move : (w : World) (at : Lookup) (i j : ℕ) (s : State) → both w i j ≡ true → 0 < length (s.flight i j) → Move w at s (hearing w at i j s)
+heard_move w at i j s h some = by_first (s.flight i j) refl some
   where
     below : (i < w.n) × (j < w.n)
     below = let p = and_parts (ltb i w.n) (ltb j w.n) h in (ltb-true i w.n p.0, ltb-true j w.n p.1)
 
-    by_first : (q : List Item) → s.flight i j ≡ q → 0 < length q → Move w nowhere s (first_heard w i j q s)
+    by_first : (q : List Item) → s.flight i j ≡ q → 0 < length q → Move w at s (first_heard w at i j q s)
     by_first [] e l = absurd (omega arith)
     by_first (x ∷ rest) e l = hears s i j x rest below.0 below.1 e
 
-pub heard_reach : (w : World) (i j : ℕ) (s : State) → both w i j ≡ true → 0 < length (s.flight i j) → Reach w nowhere s → Reach w nowhere (hearing w i j s)
-heard_reach w i j s h some r = move r (heard_move w i j s h some)
+pub heard_reach : (w : World) (at : Lookup) (i j : ℕ) (s : State) → both w i j ≡ true → 0 < length (s.flight i j) → Reach w at s → Reach w at (hearing w at i j s)
+heard_reach w at i j s h some r = move r (heard_move w at i j s h some)
 
 -- a link of two related networks that turns is a change
-pub turned_reach : (w : World) (i j : ℕ) (up : Bool) (s : State) → w.rel i i ≡ Unrelated → both w i j ≡ true → related (w.rel i j) ≡ true → Reach w nowhere s → Reach w nowhere (turned w i j up s)
-turned_reach w i j up s apart h tied r =
+pub turned_reach : (w : World) (at : Lookup) (i j : ℕ) (up : Bool) (s : State) → w.rel i i ≡ Unrelated → both w i j ≡ true → related (w.rel i j) ≡ true → Reach w at s → Reach w at (turned w i j up s)
+turned_reach w at i j up s apart h tied r =
     let p = and_parts (ltb i w.n) (ltb j w.n) h in
     change r (turns s i j up (ltb-true i w.n p.0) (ltb-true j w.n p.1) (λ e. true≢false (sym tied ∙ ap (λ k. related (w.rel i k)) (sym e) ∙ ap related apart)) tied)
 
--- what was made aside, at the place of its own number
-pub put_state : (x : Simulation) (j : ℕ) (next : State) (y : Network) (ls : List Letter) → Aside x j next y ls → whole (set (vec_items x.networks) (number_of y) y) ls ≡ next
-put_state x j next y ls aside = ap (λ n. whole (set (vec_items x.networks) n y) ls) aside.number ∙ aside.state
+-- what people send is sent
+pub sent_reach : (w : World) (at : Lookup) (i address : ℕ) (s : State) → i < w.n → Reach w at s → Reach w at (posted w at i address s)
+sent_reach w at i address s h r = send r (sends s i address h)
 
 -- what was made aside may take its place
-pub heard_ready : (x : Simulation) (i j : ℕ) (y : Network) (ls : List Letter) → both (world_of x) i j ≡ true → 0 < length ((state_of x).flight i j) → Aside x j (hearing (world_of x) i j (state_of x)) y ls → Ready x y ls
-heard_ready x i j y ls h some aside = record {
-  there = subst (λ n. n < networks x.relations) (sym aside.number) (ltb-true j (networks x.relations) (and_parts (ltb i (networks x.relations)) (ltb j (networks x.relations)) h).1);
-  homes = aside.homes;
-  within = aside.within;
-  reached = ∥∥₁_map x.reached (λ r. subst (Reach (world_of x) nowhere) (sym (put_state x j (hearing (world_of x) i j (state_of x)) y ls aside)) (heard_reach (world_of x) i j (state_of x) h some r));
+pub ready : (x : Simulation) (next : State) (end : Option Ended) (a : Aside) → Makes x next end a → (Reach (world_of x) (lookup_of x) (state_of x) → Reach (world_of x) (lookup_of x) next) → Ready x a
+ready x next end a makes reach = record {
+  fits = makes.fits;
+  within = makes.within;
+  reached = ∥∥₁_map x.reached (λ r. subst (Reach (world_of x) (lookup_of x)) (sym makes.state) (reach r));
 }
+
+pub heard_ready : (x : Simulation) (i j : ℕ) (a : Aside) → both (world_of x) i j ≡ true → 0 < length ((state_of x).flight i j) → MakesHeard x i j a → Ready x a
+heard_ready x i j a below some makes = ready x _ _ a makes (heard_reach (world_of x) (lookup_of x) i j (state_of x) below some)
+
+pub sent_ready : (x : Simulation) (i address : ℕ) (a : Aside) → i < (world_of x).n → MakesSent x i address a → Ready x a
+sent_ready x i address a below makes = ready x _ _ a makes (sent_reach (world_of x) (lookup_of x) i address (state_of x) below)

@@ -1,5 +1,6 @@
 -- A step made aside is the step of the model. Assumes nothing.
-use Rattle.std.proofs.Common.{◌≡◌, true, vec_items, ℕ, zero, suc, ◌+◌, ◌<◌, Bool, cond, eqb, List, [], ◌∷◌, ◌++◌, map, length, get_or, take, drop, set, sym, refl, ap, ◌∙◌, ⊎_elim, arith, length-set}
+use Rattle.std.proofs.Common.{◌≡◌, true, false, vec_items, Vec, Option, Some, None, ℕ, zero, suc, ◌+◌, ◌<◌, Bool, cond, eqb, List, [], ◌∷◌, ◌++◌, map, length, get_or, take, drop, set, sym, refl, ap, ◌∙◌, ⊎_elim, arith, length-set, subst}
+use Rattle.std.specs.List.{filter}
 use lib.ListN.{length-map}
 use lib.Seq.{map-set}
 use Rattle.std.proofs.lemmas.List.{drop-map, get_or-map, get_or-set_other, get_or-set_same, map-append, take-map}
@@ -8,18 +9,23 @@ use Rattle.relations.specs.Sound.{networks}
 use Rattle.relations.specs.declared.sound.Relations.{Relations}
 use Rattle.links.specs.Hearing.{after_hearing, after_turning, every, forgotten, hearing_fault, only, outbox_on_hearing, outbox_on_turning, replaced, sent_on_hearing, sent_on_turning, turning_fault}
 use Rattle.links.specs.Local.{Update, at, silent}
-use Rattle.links.specs.Run.{State, appended, queued, turned, update, updates}
+use Rattle.links.specs.Packets.{Packet, Passed, passed}
+use Rattle.links.specs.Run.{Item, State, appended, onward, packet, queued, turned, update, updates}
 use Rattle.links.specs.World.{World}
 use Rattle.mail.proofs.Posted.{Front}
-use Rattle.mail.specs.Posts.{Post, cut, flying, inside, mail, meant, posts}
-use Rattle.simulation.specs.Steps.{afloat, both, first_heard, hearing}
-use Rattle.mail.specs.Whole.{BothTurned, whole, Stepped, ground, ground_of, homes_of, local, local_at, number_of}
+use Rattle.forwarding.specs.Ends.{end_at, end_of_first}
+use Rattle.forwarding.specs.declared.packet.Ending.{Ending}
+use Rattle.mail.specs.Posting.{is_update, updates_sent}
+use Rattle.mail.specs.Posts.{Post, cut, flying, inside, mail, meant, passed_on, posts}
+use Rattle.simulation.specs.Steps.{afloat, both, first_heard}
+use Rattle.mail.specs.Whole.{BothTurned, Carried, whole, Stepped, ground, ground_of, homes_of, local, local_at, number_of}
 use Rattle.mail.specs.declared.letter.Letter.{Letter}
 use Rattle.mail.specs.declared.network.Network.{Network}
-use Rattle.simulation.specs.Simulated.{Aside, Aside2, state_of, world_of}
+use Rattle.simulation.specs.Simulated.{Makes, MakesHeard, MakesTwo, homes_in, lookup_of, state_of, world_of}
+use Rattle.std.specs.declared.alloc.Global.{Global}
 use Rattle.simulation.specs.declared.simulation.Simulation.{Simulation}
 use Rattle.simulation.proofs.Counting.{counted, inside_append, inside_cut, inside_mail, inside_without}
-use Rattle.simulation.proofs.Flights.{between_unless, flying_appended, flying_cut, flying_without, lost_one}
+use Rattle.simulation.proofs.Flights.{between_passed, between_unless, flying_appended, flying_cut, flying_without, lost_one}
 
 -- one network made anew
 pub local_set : (xs : List Network) (j : ℕ) (y : Network) (a : ℕ) → j < length xs → local_at (set xs j y) a ≡ at j (local y) (local_at xs) a
@@ -71,8 +77,8 @@ local_here xs j x l e = ap local e ∙ sym (get_or-map local xs j x silent l)
 posts_without : (k : ℕ) (ls : List Letter) → posts (take k ls ++ drop (k + 1) ls) ≡ take k (posts ls) ++ drop (k + 1) (posts ls)
 posts_without k ls = map-append meant (take k ls) (drop (k + 1) ls) ∙ sym (λ x. take-map meant k ls x ++ drop-map meant (k + 1) ls x)
 
-pub heard_some : (i j k : ℕ) (u : Update) (ls : List Letter) → Front i j k u (posts ls) → 0 < length (flying (posts ls) i j)
-heard_some i j k u ls old = let e = ap (λ us. length (map update us)) (lost_one i j k u (posts ls) old) in omega (arith, e)
+pub heard_some : (i j k : ℕ) (u : Item) (ls : List Letter) → Front i j k u (posts ls) → 0 < length (flying (posts ls) i j)
+heard_some i j k u ls old = let e = ap length (lost_one i j k u (posts ls) old) in omega (arith, e)
 
 module _ (m : Simulation) where
   abbrev r : Relations
@@ -91,39 +97,87 @@ module _ (m : Simulation) where
   here j h = omega (arith, h, m.all, m.networks.ok.0)
 
   -- network x, which is number j, heard the oldest from i
-  module _ (i j k : ℕ) (u : Update) (x y : Network) (left after : List Letter) (below : both w i j ≡ true) (e : x ≡ get_or xs j x) (old : Front i j k u (posts ls)) (cut_out : left ≡ take k ls ++ drop (k + 1) ls) (step : Stepped x (after_hearing (ground_of r x) (number_of x) i u (local x)) (outbox_on_hearing (ground_of r x) (number_of x) i u (local x)) left after y) where
+  module _ (i j k : ℕ) (x : Network) (below : both w i j ≡ true) (e : x ≡ get_or xs j x) where
     hj : j < networks r
     hj = ltb-true j _ (and_parts _ _ below).1
 
     number : number_of x ≡ j
     number = number_at xs j x (here j hj) e (m.numbers j)
 
-    same : homes_of x ≡ vec_items m.homes
-    same = homes_at xs j x (vec_items m.homes) (here j hj) e (m.same j)
+    same : homes_of x ≡ homes_in m
+    same = homes_at xs j x (homes_in m) (here j hj) e (m.same j)
+
+    own : local x ≡ local_at xs j
+    own = local_here xs j x (here j hj) e
 
     abbrev rest : List Post
     rest = take k (posts ls) ++ drop (k + 1) (posts ls)
 
-    holds : local y ≡ after_hearing w j i u (local_at xs j)
-    holds = step.holds ∙ (λ z. after_hearing (ground r (same z)) (number z) i u (local_here xs j x (here j hj) e z))
+    -- it was an update
+    module _ (u : Update) (y : Network) (left : List Letter) (after : Vec Letter Global) (old : Front i j k (update u) (posts ls)) (cut_out : left ≡ take k ls ++ drop (k + 1) ls) (step : Stepped x (after_hearing (ground_of r x) (number_of x) i u (local x)) (outbox_on_hearing (ground_of r x) (number_of x) i u (local x)) left (vec_items after) y) where
+      holds : local y ≡ after_hearing w j i u (local_at xs j)
+      holds = step.holds ∙ (λ z. after_hearing (ground r (same z)) (number z) i u (own z))
 
-    all_letters : posts after ≡ rest ++ mail j (outbox_on_hearing w j i u (local_at xs j))
-    all_letters = step.letters ∙ (λ z. (ap posts cut_out ∙ posts_without k ls) z ++ mail (number z) (outbox_on_hearing (ground r (same z)) (number z) i u (local_here xs j x (here j hj) e z)))
+      all_letters : posts (vec_items after) ≡ rest ++ mail j (outbox_on_hearing w j i u (local_at xs j))
+      all_letters = step.letters ∙ (λ z. (ap posts cut_out ∙ posts_without k ls) z ++ mail (number z) (outbox_on_hearing (ground r (same z)) (number z) i u (own z)))
 
-    flights : (a c : ℕ) → flying (posts after) a c ≡ appended j (λ n. updates (sent_on_hearing w j i u (local_at xs j) n)) (queued i j (flying rest i j) (flying (posts ls))) a c
-    flights a c =
-        ap (λ ps. flying ps a c) all_letters ∙
-        flying_appended rest (mail j (outbox_on_hearing w j i u (local_at xs j))) j (sent_on_hearing w j i u (local_at xs j)) (between_unless w j (only u.block) (replaced i u (local_at xs j)) (hearing_fault w j (local_at xs j) i u)) a c ∙
-        ap (λ q. cond (eqb a j) (q ++ updates (sent_on_hearing w j i u (local_at xs j) c)) q) (flying_without i j k u (posts ls) old a c)
+      flights : (a c : ℕ) → flying (posts (vec_items after)) a c ≡ appended j (λ n. updates (sent_on_hearing w j i u (local_at xs j) n)) (queued i j (flying rest i j) (flying (posts ls))) a c
+      flights a c =
+          ap (λ ps. flying ps a c) all_letters ∙
+          flying_appended rest (mail j (outbox_on_hearing w j i u (local_at xs j))) j (λ n. updates (sent_on_hearing w j i u (local_at xs j) n)) (between_unless w j (only u.block) (replaced i u (local_at xs j)) (hearing_fault w j (local_at xs j) i u)) a c ∙
+          ap (λ q. cond (eqb a j) (q ++ updates (sent_on_hearing w j i u (local_at xs j) c)) q) (flying_without i j k (update u) (posts ls) old a c)
 
-    pub heard_aside : Aside m j (hearing w i j (state_of m)) y after
-    heard_aside = record {
-      number = step.number ∙ number;
-      homes = step.homes ∙ same;
-      within = ap (inside (networks r)) all_letters ∙ inside_append (networks r) rest (mail j (outbox_on_hearing w j i u (local_at xs j))) (inside_without (networks r) k (posts ls) m.within) (inside_mail w j (only u.block) (replaced i u (local_at xs j)) (hearing_fault w j (local_at xs j) i u) hj);
-      state =
-          (λ z. record { locals = λ a. (local_set xs j y a (here j hj) ∙ ap (λ h. at j h (local_at xs) a) holds) z; flight = λ a c. flights a c z }) ∙
-          sym (ap (λ q. first_heard w i j q (state_of m)) (ap (map update) (lost_one i j k u (posts ls) old)));
+      pub heard_aside : MakesHeard m i j (record { network = Some y; letters = after; ending = None })
+      heard_aside = record {
+        fits = (subst (λ n. n < networks r) (sym (step.number ∙ number)) hj, step.homes ∙ same);
+        within = ap (inside (networks r)) all_letters ∙ inside_append (networks r) rest (mail j (outbox_on_hearing w j i u (local_at xs j))) (inside_without (networks r) k (posts ls) m.within) (inside_mail w j (only u.block) (replaced i u (local_at xs j)) (hearing_fault w j (local_at xs j) i u) hj);
+        state =
+            ap (λ n. whole (set xs n y) (vec_items after)) (step.number ∙ number) ∙
+            (λ z. record { locals = λ a. (local_set xs j y a (here j hj) ∙ ap (λ h. at j h (local_at xs) a) holds) z; flight = λ a c. flights a c z }) ∙
+            sym (ap (λ q. first_heard w (lookup_of m) i j q (state_of m)) (lost_one i j k (update u) (posts ls) old));
+        ended = sym (ap (λ q. end_of_first w (lookup_of m) j (local_at xs j) q) (lost_one i j k (update u) (posts ls) old));
+      }
+
+    -- it was a packet, and became this
+    module _ (p : Packet) (left : List Letter) (after : Vec Letter Global) (ending : Option Ending) (old : Front i j k (packet p) (posts ls)) (cut_out : left ≡ take k ls ++ drop (k + 1) ls) (carried : Carried x p (passed w (lookup_of m) j (local_at xs j) p) left (vec_items after) ending) where
+      abbrev pub became : Passed
+      became = passed w (lookup_of m) j (local_at xs j) p
+
+      carried_letters : posts (vec_items after) ≡ rest ++ passed_on j became
+      carried_letters = carried.letters ∙ (λ z. (ap posts cut_out ∙ posts_without k ls) z ++ passed_on (number z) became)
+
+      carried_flights : (a c : ℕ) → flying (posts (vec_items after)) a c ≡ appended j (onward became) (queued i j (flying rest i j) (flying (posts ls))) a c
+      carried_flights a c =
+          ap (λ ps. flying ps a c) carried_letters ∙
+          flying_appended rest (passed_on j became) j (onward became) (between_passed j became) a c ∙
+          ap (λ q. cond (eqb a j) (q ++ onward became c) q) (flying_without i j k (packet p) (posts ls) old a c)
+
+      pub carried_aside : inside (networks r) (passed_on j became) ≡ true → MakesHeard m i j (record { network = None; letters = after; ending = ending })
+      carried_aside inside_on = record {
+        fits = tt;
+        within = ap (inside (networks r)) carried_letters ∙ inside_append (networks r) rest (passed_on j became) (inside_without (networks r) k (posts ls) m.within) inside_on;
+        state =
+            (λ z. record { locals = local_at xs; flight = λ a c. carried_flights a c z }) ∙
+            sym (ap (λ q. first_heard w (lookup_of m) i j q (state_of m)) (lost_one i j k (packet p) (posts ls) old));
+        ended =
+            carried.end ∙ ap (λ n. end_at n p became) number ∙
+            sym (ap (λ q. end_of_first w (lookup_of m) j (local_at xs j) q) (lost_one i j k (packet p) (posts ls) old));
+      }
+
+  -- the people of network x, which is number i, sent a packet, and it became this
+  module _ (i : ℕ) (x : Network) (p : Packet) (sent : List Letter) (then : Vec Letter Global) (ending : Option Ending) (number : number_of x ≡ i) (copied : sent ≡ ls) (carried : Carried x p (passed w (lookup_of m) i (local_at xs i) p) sent (vec_items then) ending) where
+    abbrev pub goes : Passed
+    goes = passed w (lookup_of m) i (local_at xs i) p
+
+    sent_letters : posts (vec_items then) ≡ posts ls ++ passed_on i goes
+    sent_letters = carried.letters ∙ (λ z. posts (copied z) ++ passed_on (number z) goes)
+
+    pub sent_aside : inside (networks r) (passed_on i goes) ≡ true → Makes m (record { locals = local_at xs; flight = appended i (onward goes) (flying (posts ls)) }) (end_at i p goes) (record { network = None; letters = then; ending = ending })
+    sent_aside inside_on = record {
+      fits = tt;
+      within = ap (inside (networks r)) sent_letters ∙ inside_append (networks r) (posts ls) (passed_on i goes) m.within inside_on;
+      state = λ z. record { locals = local_at xs; flight = λ a c. (ap (λ ps. flying ps a c) sent_letters ∙ flying_appended (posts ls) (passed_on i goes) i (onward goes) (between_passed i goes) a c) z };
+      ended = carried.end ∙ ap (λ n. end_at n p goes) number;
     }
 
   -- the link of i and j turned: x, which is number i, stepped, and then z, which is number j
@@ -134,11 +188,11 @@ module _ (m : Simulation) where
     nj : number_of z ≡ j
     nj = number_at xs j z (here j hj) ej (m.numbers j)
 
-    si : homes_of x ≡ vec_items m.homes
-    si = homes_at xs i x (vec_items m.homes) (here i hi) ei (m.same i)
+    si : homes_of x ≡ homes_in m
+    si = homes_at xs i x (homes_in m) (here i hi) ei (m.same i)
 
-    sj : homes_of z ≡ vec_items m.homes
-    sj = homes_at xs j z (vec_items m.homes) (here j hj) ej (m.same j)
+    sj : homes_of z ≡ homes_in m
+    sj = homes_at xs j z (homes_in m) (here j hj) ej (m.same j)
 
     one_holds : local x' ≡ after_turning w i j up (local_at xs i)
     one_holds = turned_both.holds ∙ (λ t. after_turning (ground r (si t)) (ni t) (nj t) up (local_here xs i x (here i hi) ei t))
@@ -152,16 +206,16 @@ module _ (m : Simulation) where
     turned_flights : (a c : ℕ) → flying (posts after) a c ≡ appended j (λ n. updates (sent_on_turning w j i up (local_at xs j) n)) (appended i (λ n. updates (sent_on_turning w i j up (local_at xs i) n)) (queued i j [] (queued j i [] (flying (posts ls))))) a c
     turned_flights a c =
         ap (λ ps. flying ps a c) sent_both ∙
-        flying_appended (cut i j (posts ls) ++ mail i (outbox_on_turning w i j up (local_at xs i))) (mail j (outbox_on_turning w j i up (local_at xs j))) j (sent_on_turning w j i up (local_at xs j)) (between_unless w j every (forgotten i up (local_at xs j)) (turning_fault w j i)) a c ∙
+        flying_appended (cut i j (posts ls) ++ mail i (outbox_on_turning w i j up (local_at xs i))) (mail j (outbox_on_turning w j i up (local_at xs j))) j (λ n. updates (sent_on_turning w j i up (local_at xs j) n)) (between_unless w j every (forgotten i up (local_at xs j)) (turning_fault w j i)) a c ∙
         ap (λ q. cond (eqb a j) (q ++ updates (sent_on_turning w j i up (local_at xs j) c)) q)
-        (flying_appended (cut i j (posts ls)) (mail i (outbox_on_turning w i j up (local_at xs i))) i (sent_on_turning w i j up (local_at xs i)) (between_unless w i every (forgotten j up (local_at xs i)) (turning_fault w i j)) a c ∙ ap (λ q. cond (eqb a i) (q ++ updates (sent_on_turning w i j up (local_at xs i) c)) q) (flying_cut i j (posts ls) a c))
+        (flying_appended (cut i j (posts ls)) (mail i (outbox_on_turning w i j up (local_at xs i))) i (λ n. updates (sent_on_turning w i j up (local_at xs i) n)) (between_unless w i every (forgotten j up (local_at xs i)) (turning_fault w i j)) a c ∙ ap (λ q. cond (eqb a i) (q ++ updates (sent_on_turning w i j up (local_at xs i) c)) q) (flying_cut i j (posts ls) a c))
 
     turned_locals : (a : ℕ) → local_at (set (set xs j z') i x') a ≡ at i (after_turning w i j up (local_at xs i)) (at j (after_turning w j i up (local_at xs j)) (local_at xs)) a
     turned_locals a =
         local_set (set xs j z') i x' a (omega (arith, here i hi, length-set xs j z')) ∙
         (λ t. cond (eqb a i) (one_holds t) ((local_set xs j z' a (here j hj) ∙ ap (λ h. at j h (local_at xs) a) other_holds) t))
 
-    pub turned_aside : Aside2 m i j (turned w i j up (state_of m)) x' z' after
+    pub turned_aside : MakesTwo m i j (turned w i j up (state_of m)) x' z' after
     turned_aside = record {
       number = turned_both.number ∙ ni;
       number2 = turned_both.number2 ∙ nj;
@@ -173,6 +227,14 @@ module _ (m : Simulation) where
       state = λ t. record { locals = λ a. turned_locals a t; flight = λ a c. turned_flights a c t };
     }
 
--- as many updates are in flight as there are letters
-pub crowded : (m : Simulation) (nets : List Network) (posted given : List Letter) (t : State) → inside (networks m.relations) (posts posted) ≡ true → whole nets posted ≡ t → given ≡ posted → afloat (world_of m) t ≡ length given
-crowded m nets posted given t within is same = sym (ap (afloat (world_of m)) is) ∙ counted (networks m.relations) (posts posted) within ∙ length-map posted meant ∙ sym (ap length same)
+-- as many updates are in flight as there are among the letters
+one_each : {X Y : Type 0} (b : Bool) (x : X) (y : Y) (us : List X) (vs : List Y) → length us ≡ length vs → length (cond b (x ∷ us) us) ≡ length (cond b (y ∷ vs) vs)
+one_each true x y us vs e = ap suc e
+one_each false x y us vs e = e
+
+of_letters : (sent : List Letter) → length (filter (λ p. is_update p.what) (posts sent)) ≡ updates_sent sent
+of_letters [] = refl
+of_letters (l ∷ sent) = one_each (is_update (meant l).what) (meant l) l _ _ (of_letters sent)
+
+pub crowded : (m : Simulation) (nets : List Network) (posted given : List Letter) (t : State) → inside (networks m.relations) (posts posted) ≡ true → whole nets posted ≡ t → given ≡ posted → afloat (world_of m) t ≡ updates_sent given
+crowded m nets posted given t within is kept = sym (ap (afloat (world_of m)) is) ∙ counted (networks m.relations) (posts posted) within ∙ of_letters posted ∙ sym (ap updates_sent kept)

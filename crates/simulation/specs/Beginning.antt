@@ -3,6 +3,7 @@ use Rattle.std.specs.Prelude.{◌≡◌, ℕ, Bool, false, ◌||◌, List, map, 
 use Rattle.std.specs.declared.alloc.Global.{Global}
 use Rattle.relations.specs.Sound.{networks}
 use Rattle.relations.specs.declared.sound.Relations.{Relations}
+use Rattle.blocks.specs.declared.block_list.BlockList.{BlockList}
 use Rattle.links.specs.Run.{begin}
 use Rattle.simulation.specs.Simulated.{state_of, world_of}
 use Rattle.simulation.specs.declared.simulation.Simulation.{Simulation}
@@ -19,9 +20,12 @@ abbrev pub AllFresh : ℕ → List ℕ → Vec Network Global → Type 0
 AllFresh n homes v = (vec_len v ≡ n) × ((i : ℕ) → slice_index_or (map number_of (vec_items v)) i i ≡ i) × ((i : ℕ) → slice_index_or (map homes_of (vec_items v)) i homes ≡ homes) × ((i : ℕ) → local_at (vec_items v) i ≡ silent)
 
 -- more than 16 networks or 64 blocks
-abbrev pub too_large : Relations → List ℕ → Bool
-too_large r homes = nat_lt 16 (networks r) || nat_lt 64 (length homes)
+abbrev pub too_large : Relations → BlockList → Bool
+too_large r blocks = nat_lt 16 (networks r) || nat_lt 64 (length (vec_items blocks.homes))
 
 -- all networks as at the beginning of every run
-abbrev pub Began : Relations → List ℕ → Simulation → Type 0
-Began r homes x = (too_large r homes ≡ false) × (world_of x ≡ ground r homes) × (state_of x ≡ begin)
+pub record Began (r : Relations) (blocks : BlockList) (x : Simulation) : Type 0 where
+  pub few : too_large r blocks ≡ false
+  pub world : world_of x ≡ ground r (vec_items blocks.homes)
+  pub kept : x.blocks ≡ blocks
+  pub state : state_of x ≡ begin

@@ -1,10 +1,16 @@
 -- Hearing until nothing is in flight. Assumes nothing.
-use Rattle.std.specs.Prelude.{◌≡◌, ℕ, ◌<◌, Bool, true, false, ◌&&◌, ◌||◌, List, [], length, Some, None, Option, ◌==◌, nat_lt, slice_index_or, vec_items}
+use Rattle.std.specs.Prelude.{◌≡◌, ℕ, ◌<◌, Bool, true, false, ◌&&◌, ◌||◌, List, [], ◌++◌, map, length, Some, None, Option, ◌==◌, nat_lt, slice_index_or, vec_items}
+use Rattle.std.specs.List.Sorted.{IsPermutation}
 use Rattle.std.specs.Ordering.{is_lt, nat_cmp, ordering_then}
+use Rattle.links.specs.Promise.{Lookup}
 use Rattle.links.specs.Run.{State}
 use Rattle.links.specs.World.{World}
 use Rattle.convergence.specs.Levels.{Heights}
 use Rattle.convergence.specs.Measure.{left}
+use Rattle.forwarding.specs.Ends.{Ended, end_heard, ends}
+use Rattle.forwarding.specs.Passing.{ended_of}
+use Rattle.forwarding.specs.declared.packet.Ending.{Ending}
+use Rattle.delivery.specs.Flight.{Heard, fates}
 use Rattle.mail.specs.Posting.{Oldest, blank}
 use Rattle.mail.specs.Posts.{Post, between, posts}
 use Rattle.mail.specs.declared.letter.Letter.{Letter}
@@ -36,20 +42,39 @@ pub record Foremost (x : Simulation) (k : ℕ) : Type 0 where
 abbrev pub LowestEnds : List Letter → ℕ × ℕ → Type 0
 LowestEnds ls m = ((k : ℕ) × (k < length ls) × ((slice_index_or ls k blank).from ≡ m.0) × ((slice_index_or ls k blank).to ≡ m.1)) × ((k : ℕ) → k < length ls → is_lt (ordering_then (nat_cmp (slice_index_or ls k blank).from m.0) (nat_cmp (slice_index_or ls k blank).to m.1)) ≡ false)
 
--- nothing is in flight
-abbrev pub Still : State → Type 0
-Still s = (i j : ℕ) → s.flight i j ≡ []
-
--- the oldest of the lowest pair that has something in flight was heard
-pub record NextHeard (w : World) (s t : State) : Type 0 where
+-- the oldest of the lowest pair that has something in flight was heard, and this end came
+pub record NextHeard (w : World) (at : Lookup) (s t : State) (end : Option Ended) : Type 0 where
   pub i : ℕ
   pub j : ℕ
   pub below : both w i j ≡ true
   pub some : 0 < length (s.flight i j)
   pub lowest : (a c : ℕ) → lower a c i j ≡ true → s.flight a c ≡ []
-  pub step : t ≡ hearing w i j s
+  pub step : t ≡ hearing w at i j s
+  pub came : end ≡ end_heard w at i j s
 
--- from one state to another by any number of such hearings
-pub data Hearings (w : World) (s : State) : State → Type 0 where
-  none : Hearings w s s
-  more : {t u : State} → Hearings w s t → NextHeard w t u → Hearings w s u
+-- so, and the end is told behind those that were told before
+pub record NextTold (w : World) (at : Lookup) (s t : State) (before after : List Ending) : Type 0 where
+  pub end : Option Ended
+  pub heard : NextHeard w at s t end
+  pub told : map ended_of after ≡ map ended_of before ++ ends end
+
+-- from one state to another by any number of such hearings, and the ends that came, one after the other
+pub data Hearings (w : World) (at : Lookup) (s : State) : State → List Ended → Type 0 where
+  none : Hearings w at s s []
+  more : {t u : State} {es : List Ended} {end : Option Ended} → Hearings w at s t es → NextHeard w at t u end → Hearings w at s u (es ++ ends end)
+
+-- so many hearings, and their ends are told behind those that were told before
+pub record HeardAll (w : World) (at : Lookup) (s t : State) (before after : List Ending) : Type 0 where
+  pub came : List Ended
+  pub hearings : Hearings w at s t came
+  pub told : map ended_of after ≡ map ended_of before ++ came
+
+-- the ends of all packets in flight, each once and by its fate, are told behind those that were told before
+pub record FatesTold (w : World) (at : Lookup) (s : State) (before after : List Ending) : Type 0 where
+  pub came : List Ended
+  pub told : map ended_of after ≡ map ended_of before ++ came
+  pub fates : ∥ IsPermutation (fates w at s) came ∥₁
+
+-- such hearings are hearings in some order
+abbrev pub RestHears : Type 0
+RestHears = (w : World) (at : Lookup) (s t : State) (es : List Ended) → Hearings w at s t es → Heard w at s t es

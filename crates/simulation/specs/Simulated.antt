@@ -1,17 +1,39 @@
 -- What a simulation holds, in the terms of the model of a run, and a step made aside. Assumes nothing.
-use Rattle.std.specs.Prelude.{◌≡◌, ℕ, ◌<◌, true, List, vec_items, slice_set}
+use Rattle.std.specs.Prelude.{◌≡◌, ℕ, ◌<◌, true, List, Some, None, Option, vec_items, slice_index, slice_set}
+use Rattle.std.specs.Option.{option_map}
 use Rattle.relations.specs.Sound.{networks}
-use Rattle.links.specs.Run.{Reach, State}
+use Rattle.blocks.specs.Ranges.{block_at}
+use Rattle.blocks.specs.declared.block_list.Block.{Block}
+use Rattle.links.specs.Promise.{Lookup}
+use Rattle.links.specs.Run.{Reach, State, posted}
 use Rattle.links.specs.World.{World}
+use Rattle.forwarding.specs.Ends.{Ended, end_heard, end_posted}
+use Rattle.forwarding.specs.Passing.{ended_of}
 use Rattle.mail.specs.Posting.{letter_at}
 use Rattle.mail.specs.Posts.{inside, posts}
-use Rattle.mail.specs.Whole.{ground, homes_of, nowhere, number_of, whole}
+use Rattle.mail.specs.Whole.{ground, homes_of, number_of, whole}
 use Rattle.mail.specs.declared.letter.Letter.{Letter}
 use Rattle.mail.specs.declared.network.Network.{Network}
+use Rattle.simulation.specs.Steps.{hearing}
+use Rattle.simulation.specs.declared.aside.Aside.{Aside}
 use Rattle.simulation.specs.declared.simulation.Simulation.{Simulation}
 
+abbrev pub homes_in : Simulation → List ℕ
+homes_in x = vec_items x.blocks.homes
+
 abbrev pub world_of : Simulation → World
-world_of x = ground x.relations (vec_items x.homes)
+world_of x = ground x.relations (homes_in x)
+
+-- the block that an address is in, by the list of blocks
+abbrev pub lookup_of : Simulation → Lookup
+lookup_of x = block_at (vec_items x.blocks.firsts) (vec_items x.blocks.lasts)
+
+-- block b as the list has it
+pub record Shows (x : Simulation) (b : ℕ) (block : Block) : Type 0 where
+  pub there : b < (world_of x).blocks
+  pub first : block.first.0 ≡ slice_index (vec_items x.blocks.firsts) b
+  pub last : block.last.0 ≡ slice_index (vec_items x.blocks.lasts) b
+  pub home : block.home ≡ (world_of x).home b
 
 abbrev pub state_of : Simulation → State
 state_of x = whole (vec_items x.networks) (vec_items x.letters)
@@ -20,25 +42,42 @@ state_of x = whole (vec_items x.networks) (vec_items x.letters)
 abbrev pub letter_of : Simulation → ℕ → Letter
 letter_of x k = letter_at (vec_items x.letters) k
 
--- the next state, with one network and all letters made anew
-pub record Aside (x : Simulation) (i : ℕ) (next : State) (y : Network) (ls : List Letter) : Type 0 where
-  pub number : number_of y ≡ i
-  pub homes : homes_of y ≡ vec_items x.homes
-  pub within : inside (networks x.relations) (posts ls) ≡ true
-  pub state : whole (slice_set (vec_items x.networks) i y) ls ≡ next
+-- one network takes the place of its number, or none does
+abbrev pub with_network : List Network → Option Network → List Network
+with_network xs None = xs
+with_network xs (Some y) = slice_set xs (number_of y) y
+
+-- one of the networks that there are, with the homes that there are
+abbrev pub Fits : Simulation → Option Network → Type 0
+Fits x None = Unit {0}
+Fits x (Some y) = (number_of y < networks x.relations) × (homes_of y ≡ homes_in x)
+
+-- a step made aside: this is the state then, and this end comes
+pub record Makes (x : Simulation) (next : State) (end : Option Ended) (a : Aside) : Type 0 where
+  pub fits : Fits x a.network
+  pub within : inside (networks x.relations) (posts (vec_items a.letters)) ≡ true
+  pub state : whole (with_network (vec_items x.networks) a.network) (vec_items a.letters) ≡ next
+  pub ended : option_map ended_of a.ending ≡ end
+
+-- network j hears the oldest from i
+abbrev pub MakesHeard : Simulation → ℕ → ℕ → Aside → Type 0
+MakesHeard x i j a = Makes x (hearing (world_of x) (lookup_of x) i j (state_of x)) (end_heard (world_of x) (lookup_of x) i j (state_of x)) a
+
+-- the people of network i send a packet
+abbrev pub MakesSent : Simulation → ℕ → ℕ → Aside → Type 0
+MakesSent x i address a = Makes x (posted (world_of x) (lookup_of x) i address (state_of x)) (end_posted (world_of x) (lookup_of x) i address (state_of x)) a
 
 -- the next state, with two networks and all letters made anew
-pub record Aside2 (x : Simulation) (i j : ℕ) (next : State) (y z : Network) (ls : List Letter) : Type 0 where
+pub record MakesTwo (x : Simulation) (i j : ℕ) (next : State) (y z : Network) (ls : List Letter) : Type 0 where
   pub number : number_of y ≡ i
   pub number2 : number_of z ≡ j
-  pub homes : homes_of y ≡ vec_items x.homes
-  pub homes2 : homes_of z ≡ vec_items x.homes
+  pub homes : homes_of y ≡ homes_in x
+  pub homes2 : homes_of z ≡ homes_in x
   pub within : inside (networks x.relations) (posts ls) ≡ true
   pub state : whole (slice_set (slice_set (vec_items x.networks) j z) i y) ls ≡ next
 
--- a network and letters that may take the place of those that there are
-pub record Ready (x : Simulation) (y : Network) (ls : List Letter) : Type 0 where
-  pub there : number_of y < networks x.relations
-  pub homes : homes_of y ≡ vec_items x.homes
-  pub within : inside (networks x.relations) (posts ls) ≡ true
-  pub reached : ∥ Reach (world_of x) nowhere (whole (slice_set (vec_items x.networks) (number_of y) y) ls) ∥₁
+-- what may take the place of what there is
+pub record Ready (x : Simulation) (a : Aside) : Type 0 where
+  pub fits : Fits x a.network
+  pub within : inside (networks x.relations) (posts (vec_items a.letters)) ≡ true
+  pub reached : ∥ Reach (world_of x) (lookup_of x) (whole (with_network (vec_items x.networks) a.network) (vec_items a.letters)) ∥₁

@@ -1,44 +1,70 @@
 -- The steps of all networks, and why one is not played, in the terms of the model of a run. Assumes nothing.
-use Rattle.std.specs.Prelude.{◌≡◌, ℕ, ◌<◌, ◌≤◌, Bool, true, false, ◌&&◌, List, [], ◌∷◌, length, nat_lt}
+use Rattle.std.specs.Prelude.{◌≡◌, ℕ, ◌<◌, ◌≤◌, Bool, true, false, ◌&&◌, List, [], ◌∷◌, length, Option, nat_lt}
+use Rattle.std.specs.List.{filter}
+use Rattle.std.specs.Option.{option_map}
 use Rattle.selection.specs.Choosing.{related}
-use Rattle.links.specs.Run.{Item, State, taken, turned}
+use Rattle.links.specs.Promise.{Lookup}
+use Rattle.links.specs.Run.{Item, State, posted, taken, turned}
 use Rattle.links.specs.World.{World}
 use Rattle.convergence.specs.Measure.{sum}
-use Rattle.mail.specs.Whole.{nowhere}
+use Rattle.forwarding.specs.Ends.{end_heard, end_posted}
+use Rattle.forwarding.specs.Passing.{ended_of}
+use Rattle.forwarding.specs.declared.packet.Ending.{Ending}
+use Rattle.mail.specs.Posting.{is_update}
 use Rattle.simulation.specs.declared.cause.Cause.TheVariants.{NoSuchNetwork, NothingInFlight, NoLink, TooMany}
 use Rattle.simulation.specs.declared.cause.Refusal.{Refusal}
 use Rattle.simulation.specs.declared.cause.Refusal.TheVariants.{Fault, Memory}
 
 -- network j hears the first of what is in flight from i
-abbrev pub first_heard : World → ℕ → ℕ → List Item → State → State
-first_heard w i j [] s = s
-first_heard w i j (x ∷ rest) s = taken w nowhere i j x rest s
+abbrev pub first_heard : World → Lookup → ℕ → ℕ → List Item → State → State
+first_heard w at i j [] s = s
+first_heard w at i j (x ∷ rest) s = taken w at i j x rest s
 
-abbrev pub hearing : World → ℕ → ℕ → State → State
-hearing w i j s = first_heard w i j (s.flight i j) s
+abbrev pub hearing : World → Lookup → ℕ → ℕ → State → State
+hearing w at i j s = first_heard w at i j (s.flight i j) s
 
--- how much is in flight: updates, as long as no packets are sent
+-- how many of these are updates
+abbrev pub updates_in : List Item → ℕ
+updates_in xs = length (filter is_update xs)
+
+-- how many updates are in flight
 abbrev pub afloat : World → State → ℕ
-afloat w s = sum w.n (λ i. sum w.n (λ j. length (s.flight i j)))
+afloat w s = sum w.n (λ i. sum w.n (λ j. updates_in (s.flight i j)))
 
 -- there are two such networks
 abbrev pub both : World → ℕ → ℕ → Bool
 both w i j = nat_lt i w.n && nat_lt j w.n
 
--- network j heard the oldest from i
-pub record Hears (w : World) (i j : ℕ) (s t : State) : Type 0 where
+-- network j heard the oldest from i; where that was a packet that ended, its end is told
+pub record Hears (w : World) (at : Lookup) (i j : ℕ) (s t : State) (ending : Option Ending) : Type 0 where
   pub below : both w i j ≡ true
   pub some : 0 < length (s.flight i j)
   pub room : afloat w t ≤ 4096
-  pub step : t ≡ hearing w i j s
+  pub step : t ≡ hearing w at i j s
+  pub end : option_map ended_of ending ≡ end_heard w at i j s
 
 -- why it did not
-abbrev pub NotHeard : World → ℕ → ℕ → State → Refusal → Type 0
-NotHeard w i j s (Fault NoSuchNetwork) = both w i j ≡ false
-NotHeard w i j s (Fault NothingInFlight) = (both w i j ≡ true) × (s.flight i j ≡ [])
-NotHeard w i j s (Fault NoLink) = ⊥
-NotHeard w i j s (Fault TooMany) = (both w i j ≡ true) × (0 < length (s.flight i j)) × (4096 < afloat w (hearing w i j s))
-NotHeard w i j s Memory = Unit {0}
+abbrev pub NotHeard : World → Lookup → ℕ → ℕ → State → Refusal → Type 0
+NotHeard w at i j s (Fault NoSuchNetwork) = both w i j ≡ false
+NotHeard w at i j s (Fault NothingInFlight) = (both w i j ≡ true) × (s.flight i j ≡ [])
+NotHeard w at i j s (Fault NoLink) = ⊥
+NotHeard w at i j s (Fault TooMany) = (both w i j ≡ true) × (0 < length (s.flight i j)) × (4096 < afloat w (hearing w at i j s))
+NotHeard w at i j s Memory = Unit {0}
+
+-- the people of network i sent a packet; where it ended there, its end is told
+pub record Sends (w : World) (at : Lookup) (i address : ℕ) (s t : State) (ending : Option Ending) : Type 0 where
+  pub below : i < w.n
+  pub room : afloat w t ≤ 4096
+  pub step : t ≡ posted w at i address s
+  pub end : option_map ended_of ending ≡ end_posted w at i address s
+
+-- why they did not
+abbrev pub NotSent : World → Lookup → ℕ → ℕ → State → Refusal → Type 0
+NotSent w at i address s (Fault NoSuchNetwork) = w.n ≤ i
+NotSent w at i address s (Fault NothingInFlight) = ⊥
+NotSent w at i address s (Fault NoLink) = ⊥
+NotSent w at i address s (Fault TooMany) = (i < w.n) × (4096 < afloat w (posted w at i address s))
+NotSent w at i address s Memory = Unit {0}
 
 -- the link of i and j turned
 pub record Turns (w : World) (i j : ℕ) (up : Bool) (s t : State) : Type 0 where

@@ -1,10 +1,13 @@
 // All networks in memory: n routers, and what is in flight between them.
 #![tactic(auto)]
 
+mod aside;
 mod cause;
+mod laws;
 mod simulation;
 mod wording;
 
 pub use cause::{Cause, Refusal};
+pub use laws::rest_hears;
 pub use links::Unmade;
 pub use simulation::{MOST_BLOCKS, MOST_NETWORKS, Simulation};

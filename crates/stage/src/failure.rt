@@ -1,5 +1,4 @@
 // What ends a program with status 1, and the line that tells it.
-use homes::HomeRefusal;
 use report::StepFault;
 use script::Line;
 use simulation::Unmade;
@@ -7,7 +6,6 @@ use std::alloc::{AllocError, Global};
 use std::error::Error;
 use std::{fmt, io};
 use text::Fault;
-use ties::Refusal;
 
 // By hand, and not by `thiserror`, which would be one crate more for ten lines.
 #[derive(Debug, Drop)]
@@ -16,8 +14,8 @@ pub enum Failure {
     Usage(&'static str),
     // what was to be read or written, and why it was not
     Unmoved { what: String, error: io::Error },
-    Ties(Refusal),
-    Homes(HomeRefusal),
+    Ties(ties::Refusal),
+    Blocks(blockfile::Refusal),
     // more networks or blocks than can be rehearsed
     TooLarge,
     // a line of the script that is not read
@@ -33,7 +31,7 @@ impl fmt::Display for Failure {
             Failure::Usage(usage) => write!(f, "{usage}"),
             Failure::Unmoved { what, error } => write!(f, "{what}: {error}"),
             Failure::Ties(refusal) => write!(f, "ties: {refusal}"),
-            Failure::Homes(refusal) => write!(f, "home: {refusal}"),
+            Failure::Blocks(refusal) => write!(f, "blocks: {refusal}"),
             Failure::TooLarge => write!(f, "more than 16 networks or 64 blocks"),
             Failure::Line(fault) => write!(f, "script: {fault}"),
             Failure::Step(fault) => write!(f, "script: {fault}"),

@@ -1,4 +1,4 @@
-// What the programs that play scripts share: networks set up by a ties file and homes, and a script that is played.
+// What the programs that play scripts share: networks set up by a ties file and a block file, and a script that is played.
 #![tactic(auto)]
 
 mod failure;

@@ -6,9 +6,10 @@ ghost use Rattle.stage.specs.Reading.{Shortens};
 use crate::failure::{Failure, unmoved};
 use crate::loading::load;
 use crate::setting::set_up;
-use report::{Shown, StepFault};
+use report::{Ended, Shown, StepFault};
 use script::{Command, Limits, Line, Script};
 use simulation::Simulation;
+use std::fmt::Display;
 use text::Fault;
 
 // The next command, or what is told of a faulty line.
@@ -20,20 +21,27 @@ fn next(script: &mut Script<'_>, limits: Limits) -> Result<Option<Command>, Fail
     next.map_err(|cause| Failure::Line(Fault { place, cause }))
 }
 
-// Plays a command, and writes what is shown to standard output.
+// Writes to standard output.
+fn tell<T: Display + Drop>(rt: &HostRuntime, text: T) -> Result<(), Failure> {
+    rt.print(text)
+        .map_err(|e| unmoved(rt.alloc(), "standard output", e))
+}
+
+// Plays a command, and writes what is shown to standard output: how packets ended, also where it is not played to its end.
 fn play(
     rt: &HostRuntime,
     simulation: &mut Simulation,
     command: Command,
     line: usize,
 ) -> Result<(), Failure> {
-    report::play(simulation, command).map_err(|refusal| Failure::Step(StepFault {
-        refusal,
-        line,
-    }))?;
+    let mut endings = Vec::new(rt.alloc());
+    let played = report::play(simulation, command, &mut endings);
+    for ending in endings {
+        tell(rt, Ended(ending))?;
+    }
+    played.map_err(|refusal| Failure::Step(StepFault { refusal, line }))?;
     if let Command::Show { block } = command {
-        rt.print(Shown { simulation, block })
-            .map_err(|e| unmoved(rt.alloc(), "standard output", e))?;
+        tell(rt, Shown { simulation, block })?;
     }
     Ok(())
 }
@@ -51,16 +59,9 @@ fn play_all(rt: &HostRuntime, simulation: &mut Simulation, bytes: &[u8]) -> Resu
     Ok(())
 }
 
-// Sets up networks by the files and words that are named, and plays a script: the ties first, then the homes, then the
-// script.
-pub fn perform(
-    rt: &HostRuntime,
-    ties: &str,
-    script: &str,
-    homes: &[String],
-) -> Result<(), Failure> {
-    let ties = load(rt, ties)?;
-    let mut simulation = set_up(ties.as_slice(), homes, rt.alloc())?;
+// Sets up networks by the files that are named, and plays a script: the ties first, then the blocks, then the script.
+pub fn perform(rt: &HostRuntime, ties: &str, blocks: &str, script: &str) -> Result<(), Failure> {
+    let mut simulation = set_up(rt, ties, blocks)?;
     let script = load(rt, script)?;
     play_all(rt, &mut simulation, script.as_slice())
 }

@@ -1,2 +1,3 @@
 pub mod Row
 pub mod Faults
+pub mod Dotted

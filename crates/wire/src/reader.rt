@@ -1,6 +1,6 @@
 // A reader of bytes: what it has read, and how far it came, by which its contracts tell.
 ghost use Rattle.std.specs.Prelude.{◌≡◌, ◌+◌, ◌<◌, ◌≤◌, length, MatchOption, nat_le, slice_index};
-ghost use Rattle.wire.specs.Reading.{input, place, word16};
+ghost use Rattle.wire.specs.Reading.{input, place, word16, word32};
 
 // That the input stays is a clause of each reading, since an invariant of the type speaks of one moment.
 #[derive(Drop)]
@@ -37,6 +37,21 @@ impl<'a> Reader<'a> {
         let low = *self.bytes.get(self.at + 1)?;
         self.at += 2;
         Some(u16::from_be_bytes([high, low]))
+    }
+
+    // The next four bytes as a number, high byte first. Where fewer are left, nothing is read.
+    pub fn long(&mut self) -> Option<u32>
+        ensures source { input self.new ≡ input self.old }
+        ensures cases { MatchOption result ((length (input self.old) < place self.old + 4) × (place self.new ≡ place self.old)) (λ w. (place self.old + 4 ≤ length (input self.old)) × (w ≡ word32 (input self.old) (place self.old)) × (place self.new ≡ place self.old + 4)) }
+    {
+        let bytes = [
+            *self.bytes.get(self.at)?,
+            *self.bytes.get(self.at + 1)?,
+            *self.bytes.get(self.at + 2)?,
+            *self.bytes.get(self.at + 3)?,
+        ];
+        self.at += 4;
+        Some(u32::from_be_bytes(bytes))
     }
 
     // Whether every byte is read.

@@ -7,7 +7,7 @@ ghost use Rattle.mail.specs.Posting.{told_by, whom};
 ghost use Rattle.mail.specs.Posts.{mailing, posts};
 ghost use Rattle.mail.specs.Whole.{number_of};
 
-use crate::letter::Letter;
+use crate::letter::{Item, Letter};
 use crate::network::Network;
 use advertisement::Audience;
 use links::Fault;
@@ -28,8 +28,8 @@ impl Network {
         let from = self.router.number();
         for to in 0..networks {
             if audience.contains(to) {
-                let update = self.tables.update(block, to);
-                letters.push(Letter { from, to, update })?;
+                let item = Item::Update(self.tables.update(block, to));
+                letters.push(Letter { from, to, item })?;
             }
         }
         Ok(())

@@ -1,25 +1,27 @@
 // Hearing what is in flight.
-ghost use Rattle.std.specs.Prelude.{◌≡◌, ◌<◌, ◌≤◌, true, false, length, IfOk, MatchResult, OnOk, slice_set};
+ghost use Rattle.std.specs.Prelude.{◌≡◌, ◌<◌, ◌≤◌, true, false, length, IfOk, MatchResult, OnOk};
 ghost use Rattle.simulation.specs.declared.cause.Cause.TheVariants.{NoSuchNetwork, TooMany};
-ghost use Rattle.simulation.specs.Simulated.{Aside, Ready, letter_of, state_of, world_of};
+ghost use Rattle.simulation.specs.Simulated.{MakesHeard, Ready, letter_of, lookup_of, state_of, with_network, world_of};
 ghost use Rattle.simulation.specs.Resting.{Lessens};
-ghost use Rattle.simulation.specs.Steps.{Hears, NotHeard, both, hearing};
-ghost use Rattle.mail.specs.Posting.{Oldest};
-ghost use Rattle.mail.specs.Whole.{number_of, whole};
+ghost use Rattle.simulation.specs.Steps.{Hears, NotHeard, both};
+ghost use Rattle.mail.specs.Posting.{Oldest, updates_sent};
+ghost use Rattle.mail.specs.Whole.{whole};
 
+use crate::aside::Aside;
 use crate::cause::{Cause, Refusal};
 use crate::simulation::Simulation;
-use mail::{Letter, Network, oldest, without};
+use forwarding::Ending;
+use mail::{Item, Letter, oldest, updates, without};
 use std::alloc::AllocError;
 
-// The most letters that a hearing or a turn may leave in flight.
-const MOST_LETTERS: usize = 4096;
+// The most updates that a step may leave in flight.
+const MOST_UPDATES: usize = 4096;
 
-// Refused where there are more letters than may be in flight.
+// Refused where there are more updates than may be in flight.
 pub(crate) fn have_room(letters: &[Letter]) -> Result<(), Cause>
-    ensures { MatchResult result (λ _. length letters.now ≤ 4096) (λ cause. (cause ≡ TooMany) × (4096 < length letters.now)) }
+    ensures { MatchResult result (λ _. updates_sent letters.now ≤ 4096) (λ cause. (cause ≡ TooMany) × (4096 < updates_sent letters.now)) }
 {
-    if letters.len() > MOST_LETTERS {
+    if updates(letters) > MOST_UPDATES {
         return Err(Cause::TooMany);
     }
     Ok(())
@@ -37,47 +39,71 @@ impl Simulation {
         Ok(())
     }
 
-    // The network that the letter at a place goes to, as it is when it has heard it, and what is left in flight then. The
-    // letter is the oldest between its ends.
-    pub(crate) fn aside(&self, place: usize) -> Result<(Network, Vec<Letter>), AllocError>
+    // What is left when the letter at a place is heard, which is the oldest between its ends.
+    pub(crate) fn aside(&self, place: usize) -> Result<Aside, AllocError>
         requires { Oldest (letter_of self.now place).from (letter_of self.now place).to place self.now.letters.items }
-        ensures { IfOk result (λ then. Aside self.now (letter_of self.now place).to (hearing (world_of self.now) (letter_of self.now place).from (letter_of self.now place).to (state_of self.now)) then.0 then.1.items) }
+        ensures { IfOk result (MakesHeard self.now (letter_of self.now place).from (letter_of self.now place).to) }
     {
-        let Letter { from, to, update } = self.letters[place];
+        let Letter { from, to, item } = self.letters[place];
         let mut letters = without(&self.letters, place, *self.letters.allocator())?;
-        let network = self.networks[to as usize].hear(&self.relations, from, update, &mut letters)?;
-        Ok((network, letters))
+        let hearer = &self.networks[to as usize];
+        let (network, ending) = match item {
+            Item::Update(update) => {
+                let network = hearer.hear(&self.relations, from, update, &mut letters)?;
+                (Some(network), None)
+            }
+            Item::Packet(packet) => {
+                let blocks = self.blocks.blocks();
+                let ending = hearer.carry(&self.relations, &blocks, from, packet, &mut letters)?;
+                (None, ending)
+            }
+        };
+        Ok(Aside {
+            network,
+            letters,
+            ending,
+        })
     }
 
-    // What is left in flight when network `to` has heard the oldest update from `from`, and that network as it is then.
-    fn heard(&self, from: u8, to: u8) -> Result<(Network, Vec<Letter>), Refusal>
-        ensures { MatchResult result (λ then. (both (world_of self.now) from to ≡ true) × (0 < length ((state_of self.now).flight from to)) × Aside self.now to (hearing (world_of self.now) from to (state_of self.now)) then.0 then.1.items) (NotHeard (world_of self.now) from to (state_of self.now)) }
+    // What is left when network `to` has heard the oldest thing from `from`.
+    fn heard(&self, from: u8, to: u8) -> Result<Aside, Refusal>
+        ensures { MatchResult result (λ aside. (both (world_of self.now) from to ≡ true) × (0 < length ((state_of self.now).flight from to)) × MakesHeard self.now from to aside) (NotHeard (world_of self.now) (lookup_of self.now) from to (state_of self.now)) }
     {
         self.both_exist(from, to)?;
         let place = oldest(&self.letters, from, to).ok_or(Cause::NothingInFlight)?;
         Ok(self.aside(place)?)
     }
 
-    // A network and letters that were made aside take the place of those that there are.
-    pub(crate) fn put(&mut self, network: Network, letters: Vec<Letter>)
-        requires { Ready self.old network letters.items }
+    // What was made aside takes the place of what there is; the end of a packet that ended is handed on.
+    pub(crate) fn put(&mut self, aside: Aside) -> Option<Ending>
+        requires { Ready self.old aside }
         ensures world { world_of self.new ≡ world_of self.old }
-        ensures state { state_of self.new ≡ whole (slice_set self.old.networks.items (number_of network) network) letters.items }
+        ensures blocks { self.new.blocks ≡ self.old.blocks }
+        ensures ending { result ≡ aside.ending }
+        ensures state { state_of self.new ≡ whole (with_network self.old.networks.items aside.network) aside.letters.items }
     {
-        let number = network.router.number();
-        self.networks[number as usize] = network;
+        let Aside {
+            network,
+            letters,
+            ending,
+        } = aside;
+        if let Some(network) = network {
+            let number = network.router.number();
+            self.networks[number as usize] = network;
+        }
         self.letters = letters;
+        ending
     }
 
-    // Network `to` hears the oldest update that is in flight from `from`.
-    pub fn hear(&mut self, from: u8, to: u8) -> Result<(), Refusal>
+    // Network `to` hears the oldest thing that is in flight from `from`; the end of a packet that ended is told.
+    pub fn hear(&mut self, from: u8, to: u8) -> Result<Option<Ending>, Refusal>
         ensures world { world_of self.new ≡ world_of self.old }
-        ensures played { MatchResult result (λ _. Hears (world_of self.old) from to (state_of self.old) (state_of self.new)) (λ refusal. NotHeard (world_of self.old) from to (state_of self.old) refusal × (self.new ≡ self.old)) }
+        ensures blocks { self.new.blocks ≡ self.old.blocks }
+        ensures played { MatchResult result (Hears (world_of self.old) (lookup_of self.old) from to (state_of self.old) (state_of self.new)) (λ refusal. NotHeard (world_of self.old) (lookup_of self.old) from to (state_of self.old) refusal × (self.new ≡ self.old)) }
         ensures falls { OnOk result (Lessens (world_of self.old) (state_of self.old) (state_of self.new)) }
     {
-        let (network, letters) = self.heard(from, to)?;
-        have_room(&letters)?;
-        self.put(network, letters);
-        Ok(())
+        let aside = self.heard(from, to)?;
+        have_room(&aside.letters)?;
+        Ok(self.put(aside))
     }
 }

@@ -4,6 +4,7 @@ ghost use Rattle.links.specs.Made.{IfTooLarge};
 ghost use Rattle.simulation.specs.Beginning.{AllFresh, Began, Fresh, too_large};
 
 use crate::simulation::Simulation;
+use blocks::BlockList;
 use links::{Router, Tables, Unmade};
 use mail::Network;
 use relations::Relations;
@@ -35,17 +36,16 @@ fn networks(heap: Global, count: u8, homes: &[u8]) -> Result<Vec<Network>, Unmad
 
 impl Simulation {
     // Every link is down, and nothing is in flight. Refused for more than 16 networks or 64 blocks.
-    pub fn new(heap: Global, relations: Relations, homes: &[u8]) -> Result<Simulation, Unmade>
-        ensures { MatchResult result (Began relations homes.now) (IfTooLarge (too_large relations homes.now ≡ true)) }
+    pub fn new(heap: Global, relations: Relations, blocks: BlockList) -> Result<Simulation, Unmade>
+        ensures { MatchResult result (Began relations blocks) (IfTooLarge (too_large relations blocks ≡ true)) }
     {
-        if relations.networks() > MOST_NETWORKS || homes.len() > MOST_BLOCKS {
+        if relations.networks() > MOST_NETWORKS || blocks.homes().len() > MOST_BLOCKS {
             return Err(Unmade::TooLarge);
         }
-        let networks = networks(heap, relations.networks(), homes)?;
-        let homes = homes.to_vec(heap)?;
+        let networks = networks(heap, relations.networks(), blocks.homes())?;
         Ok(Simulation {
             relations,
-            homes,
+            blocks,
             networks,
             letters: Vec::new(heap),
         })

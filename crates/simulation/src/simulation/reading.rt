@@ -1,10 +1,11 @@
 // What a simulation says of itself.
-ghost use Rattle.std.specs.Prelude.{◌≡◌, if◌then◌else◌, Some, None, nat_lt};
+ghost use Rattle.std.specs.Prelude.{◌≡◌, ◌≤◌, MatchOption};
 ghost use Rattle.selection.specs.Choosing.{meaning};
 ghost use Rattle.simulation.specs.Shown.{goes_by};
-ghost use Rattle.simulation.specs.Simulated.{state_of, world_of};
+ghost use Rattle.simulation.specs.Simulated.{Shows, state_of, world_of};
 
 use crate::simulation::Simulation;
+use blocks::Block;
 use selection::Route;
 
 impl Simulation {
@@ -19,14 +20,14 @@ impl Simulation {
     pub fn blocks(&self) -> u16
         ensures { result ≡ (world_of self.now).blocks }
     {
-        self.homes.len() as u16
+        self.blocks.len()
     }
 
-    // The home of a block, if there is such a block.
-    pub fn home(&self, block: u16) -> Option<u8>
-        ensures { result ≡ (if nat_lt block (world_of self.now).blocks then Some ((world_of self.now).home block) else None) }
+    // A block, if there is such a block.
+    pub fn block(&self, block: u16) -> Option<Block>
+        ensures { MatchOption result ((world_of self.now).blocks ≤ block) (Shows self.now block) }
     {
-        self.homes.get(block as usize).copied()
+        self.blocks.block(block)
     }
 
     // What a network goes by for a block; nothing where there is no such network or block.

@@ -1,19 +1,28 @@
 -- The facts of the whole hold of what takes its place.
-use Rattle.std.proofs.Common.{◌≡◌, set, vec_items, sym, subst}
+use Rattle.std.proofs.Common.{◌≡◌, vec_items, subst, sym, ap, ◌∙◌, map, get_or, length, arith}
 use Rattle.links.specs.Run.{Reach}
-use Rattle.mail.specs.Whole.{nowhere, number_of, whole}
-use Rattle.simulation.specs.Simulated.{world_of}
-use Rattle.simulation.proofs.Wholes.{homes_set, number_set}
+use Rattle.mail.specs.Whole.{homes_of, number_of, whole}
+use Rattle.simulation.specs.Simulated.{homes_in, lookup_of, with_network, world_of}
+use Rattle.simulation.proofs.Placing.{placed_homes, placed_length, placed_numbers, placed_there}
 use Rattle.simulation.proofs.simulation.Simulation.put.Goals as goal
+use Rattle.simulation.proofs.simulation.Simulation.put.Goals.{in-Some, in_default}
 
 pub invariant_of-self : goal.invariant_of-self
 invariant_of-self c =
     let x = c.args.self.now in
-    let ready = c.requires in
-    let y = c.args.network in
-    let n = c.number-number.result in
-    let own : number_of y ≡ n = sym c.number-number.ensures in
-    let numbers = number_set (vec_items x.networks) n y own x.numbers in
-    let homes = homes_set (vec_items x.networks) n y (vec_items x.homes) ready.homes x.same in
-    let reached = subst (λ k. ∥ Reach (world_of x) nowhere (whole (set (vec_items x.networks) k y) (vec_items c.args.letters)) ∥₁) own ready.reached in
-    record { all = x.all; few = x.few; blocks = x.blocks; numbers = numbers; same = homes; within = ready.within; reached = reached }
+    let xs = vec_items x.networks in
+    let o = c.args.aside.network in
+    let v = c.match-network.self.1.1.1.0 in
+    let nets : vec_items v ≡ with_network xs o = elim c.match-network.branch [
+      | in-Some w ↦ ap (λ t. vec_items t.1.1.1.0) w.self-is ∙ placed_there xs o w.in-Some.network w.number-number.result w.in-Some.is w.number-number.ensures
+      | in_default w ↦ ap (λ t. vec_items t.1.1.1.0) w.self-is ∙ ap (with_network xs) (sym w.in_default.is)
+    ] in
+    record {
+      all = omega (arith, v.ok.0, ap length nets, placed_length xs o, x.networks.ok.0, x.all);
+      few = x.few;
+      small = x.small;
+      numbers = λ i. ap (λ ns. get_or (map number_of ns) i i) nets ∙ placed_numbers x o i;
+      same = λ i. ap (λ ns. get_or (map homes_of ns) i (homes_in x)) nets ∙ placed_homes x o c.requires.fits i;
+      within = c.requires.within;
+      reached = subst (λ ns. ∥ Reach (world_of x) (lookup_of x) (whole ns (vec_items c.args.aside.letters)) ∥₁) (sym nets) c.requires.reached;
+    }

@@ -3,8 +3,7 @@ use Rattle.std.proofs.Common.{arith, set, vec_items, sym, refl, subst}
 use mathlib.Core.Logic.{∥∥₁_map}
 use Rattle.std.proofs.lemmas.Result.{err_from_is_err_and}
 use Rattle.links.specs.Run.{Reach}
-use Rattle.simulation.specs.Simulated.{state_of, world_of}
-use Rattle.mail.specs.Whole.{nowhere}
+use Rattle.simulation.specs.Simulated.{homes_in, lookup_of, state_of, world_of}
 use Rattle.simulation.proofs.Reaching.{turned_reach}
 use Rattle.simulation.proofs.Wholes.{crowded, homes_set, number_set}
 use Rattle.simulation.proofs.simulation.Simulation.turn.Goals as goal
@@ -19,16 +18,16 @@ invariant_of-self c =
     let xs = vec_items x.networks in
     let done = c.in_ok-first.ensures in
     let numbers = number_set (set xs j z) i y done.2.number (number_set xs j z done.2.number2 x.numbers) in
-    let homes = homes_set (set xs j z) i y (vec_items x.homes) done.2.homes (homes_set xs j z (vec_items x.homes) done.2.homes2 x.same) in
-    let reached = ∥∥₁_map x.reached (λ r. subst (Reach (world_of x) nowhere) (sym done.2.state) (turned_reach (world_of x) i j c.args.up (state_of x) (x.relations.matrix.apart i) done.0 done.1 r)) in
-    record { all = x.all; few = x.few; blocks = x.blocks; numbers = numbers; same = homes; within = done.2.within; reached = reached }
+    let homes = homes_set (set xs j z) i y (homes_in x) done.2.homes (homes_set xs j z (homes_in x) done.2.homes2 x.same) in
+    let reached = ∥∥₁_map x.reached (λ r. subst (Reach (world_of x) (lookup_of x)) (sym done.2.state) (turned_reach (world_of x) (lookup_of x) i j c.args.up (state_of x) (x.relations.matrix.apart i) done.0 done.1 r)) in
+    record { all = x.all; few = x.few; small = x.small; numbers = numbers; same = homes; within = done.2.within; reached = reached }
 
 pub returns : goal.returns
 returns c =
     let x = c.args.self.now in
     let done = c.in_ok-first.ensures in
     let full = crowded x (set (set (vec_items x.networks) c.args.other c.in_ok-first.second) c.args.one c.in_ok-first.first) (vec_items c.in_ok-first.letters) _ _ done.2.within refl c.deref.ensures.value in
-    record { world = refl; played = record { below = done.0; tied = done.1; room = omega (arith, full, c.in_ok-have_room.ensures); step = done.2.state } }
+    record { world = refl; blocks = refl; played = record { below = done.0; tied = done.1; room = omega (arith, full, c.in_ok-have_room.ensures); step = done.2.state } }
 
 pub returns-in_err-have_room-clause-played : goal.returns-in_err-have_room-clause-played
 returns-in_err-have_room-clause-played c =

@@ -1,0 +1,7 @@
+mod Listed
+mod Overlaps
+mod Progress
+mod Decoded
+mod Answered
+mod Encoded
+mod Back

@@ -1,0 +1,4 @@
+pub mod Apart
+mod Found
+mod Grown
+mod Written

@@ -1,0 +1,4 @@
+pub mod Ranges
+pub mod Fit
+pub mod Encoding
+pub mod Laws

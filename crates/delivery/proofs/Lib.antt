@@ -1,0 +1,12 @@
+pub mod Counts
+pub mod Orders
+pub mod Alike
+pub mod Hops
+pub mod Fates
+pub mod Causes
+pub mod Carrying
+pub mod Homes
+pub mod Hearings
+pub mod Once
+pub mod Lost
+pub mod Finishing
