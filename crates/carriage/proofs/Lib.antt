@@ -1,0 +1,4 @@
+mod Sorting
+mod Writing
+mod Steps
+mod Runs

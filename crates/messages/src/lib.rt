@@ -1,0 +1,18 @@
+// What a router hears and tells, as bytes, high byte first.
+#![tactic(auto)]
+
+mod cause;
+mod decoder;
+mod encoder;
+mod kind;
+mod laws;
+mod message;
+
+pub use cause::Cause;
+pub use decoder::read;
+pub use encoder::write;
+pub use laws::{
+    a_message_takes_bytes, a_stream_is_read_on, a_stream_reads_back, a_stream_writes_back,
+    read_writes_back, what_is_read_has_bytes, written_reads_back,
+};
+pub use message::{Message, Thing};

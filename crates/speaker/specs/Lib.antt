@@ -1,0 +1,5 @@
+pub mod Rule
+pub mod Words
+pub mod Telling
+pub mod Bytes
+pub mod Answers

@@ -1,0 +1,15 @@
+// One village's router as it runs in its box: bytes in, bytes out.
+#![tactic(auto)]
+
+mod fault;
+mod packets;
+mod refusal;
+mod speaking;
+mod telling;
+mod turns;
+mod updates;
+mod writing;
+
+pub use fault::Fault;
+pub use refusal::Refusal;
+pub use speaking::{answer, room};

@@ -1,0 +1,3 @@
+mod Buffers
+mod Streaming
+mod Steps

@@ -1,0 +1,232 @@
+// A box runs: it reads things, and answers each before it reads on.
+ghost use Rattle.std.specs.Prelude.{◌≡◌, ◌<◌, ◌≤◌, [], Some, drop, false, true, length, IfOk, OnOk};
+ghost use Rattle.std.specs.Io.KnownBytes.{Appends, IsAtEnd};
+ghost use Rattle.village_box.specs.Inboxes.{Gained, Sound, left};
+ghost use Rattle.village_box.specs.Taking.{Follows, Over, Served, Stays, outcome};
+
+use crate::failure::{Failure, Thing, unmoved};
+use crate::inbox::Inbox;
+use crate::village::Village;
+use messages::Cause;
+use speaker::{Fault, Refusal};
+use std::io::{ErrorKind, Read, Write};
+use text::Fault as Told;
+
+// So many bytes may wait to be written while there are whole things to be answered.
+const WAITING: usize = 65536;
+
+#[derive(Drop)]
+struct Station {
+    village: Village,
+    inbox: Inbox,
+    // what is told and not yet written
+    out: Vec<u8>,
+    // how many things were taken or passed over
+    things: u64,
+    // whether it goes on behind a thing that is refused
+    goes_on: bool,
+}
+
+impl Station {
+    fn new(rt: &HostRuntime, village: Village, goes_on: bool) -> Result<Station, Failure>
+        ensures { IfOk result (λ s. (s.village ≡ village) × (s.goes_on ≡ goes_on) × (s.out.items ≡ []) × Sound s.inbox × (left s.inbox ≡ [])) }
+    {
+        let heap = rt.alloc();
+        let out = Vec::with_capacity(heap, WAITING + village.room())?;
+        Ok(Station {
+            village,
+            inbox: Inbox::new(heap)?,
+            out,
+            things: 0,
+            goes_on,
+        })
+    }
+
+    // Writes what is told.
+    fn flush<W: Write>(&mut self, rt: &HostRuntime, output: &mut W) -> Result<(), Failure>
+        ensures village { self.new.village ≡ self.old.village }
+        ensures goes_on { self.new.goes_on ≡ self.old.goes_on }
+        ensures inbox { self.new.inbox ≡ self.old.inbox }
+        ensures out { self.new.out.items ≡ [] }
+        ensures written { OnOk result (Appends (W.contents output.old) (W.contents output.new) self.old.out.items) }
+    {
+        let written = output.write_all(self.out.as_slice());
+        self.out.clear();
+        written.map_err(|e| unmoved(rt.alloc(), "standard output", e))
+    }
+
+    // A fault of the thing that is at hand.
+    fn fault(&self, cause: Fault) -> Failure {
+        Failure::Input(Told {
+            place: Thing(self.things),
+            cause,
+        })
+    }
+
+    // What comes of a thing that is refused: its length, if the box goes on behind it, and a fault that stops it otherwise.
+    fn refuse(
+        &self,
+        rt: &HostRuntime,
+        fault: Fault,
+        length: Option<usize>,
+    ) -> Result<usize, Failure>
+        ensures { IfOk result (λ n. (length ≡ Some n) × (self.now.goes_on ≡ true)) }
+    {
+        let told = self.fault(fault);
+        match length {
+            Some(length) if self.goes_on => {
+                let _ = eprintln!(rt; "box: {told}");
+                Ok(length)
+            }
+            _ => Err(told),
+        }
+    }
+
+    // Reads more, or ends at the end of the input, where nothing may be left: whether it has ended.
+    fn read<R: Read>(&mut self, rt: &HostRuntime, input: &mut R) -> Result<bool, Failure>
+        requires sound { Sound self.old.inbox }
+        requires short { length (left self.old.inbox) < 69 }
+        ensures sound { Sound self.new.inbox }
+        ensures village { self.new.village ≡ self.old.village }
+        ensures goes_on { self.new.goes_on ≡ self.old.goes_on }
+        ensures out { self.new.out ≡ self.old.out }
+        ensures gained { Gained (left self.old.inbox) (R.remaining input.old) (left self.new.inbox) (R.remaining input.new) }
+        ensures ended { IfOk result (λ ended. ended ≡ true → IsAtEnd (R.remaining input.new) × (left self.new.inbox ≡ [])) }
+    {
+        match self.inbox.read(input) {
+            Ok(0) if self.inbox.left().is_empty() => Ok(true),
+            Ok(0) => Err(self.fault(Fault::Message(Cause::Cut))),
+            Ok(_) => Ok(false),
+            Err(e) if e.kind() == ErrorKind::Interrupted => Ok(false),
+            Err(e) => Err(unmoved(rt.alloc(), "standard input", e)),
+        }
+    }
+
+    // Writes what is told, and then waits for more: whether the input has ended.
+    fn wait<R: Read, W: Write>(
+        &mut self,
+        rt: &HostRuntime,
+        input: &mut R,
+        output: &mut W,
+    ) -> Result<bool, Failure>
+        requires sound { Sound self.old.inbox }
+        requires short { length (left self.old.inbox) < 69 }
+        ensures village { self.new.village ≡ self.old.village }
+        ensures goes_on { self.new.goes_on ≡ self.old.goes_on }
+        ensures sound { OnOk result (Sound self.new.inbox) }
+        ensures out { OnOk result (self.new.out.items ≡ []) }
+        ensures written { OnOk result (Appends (W.contents output.old) (W.contents output.new) self.old.out.items) }
+        ensures gained { OnOk result (Gained (left self.old.inbox) (R.remaining input.old) (left self.new.inbox) (R.remaining input.new)) }
+        ensures ended { IfOk result (λ ended. ended ≡ true → IsAtEnd (R.remaining input.new) × (left self.new.inbox ≡ [])) }
+    {
+        self.flush(rt, output)?;
+        self.read(rt, input)
+    }
+
+    // Takes so many bytes from what is left: a thing more.
+    fn pass(&mut self, taken: usize)
+        requires sound { Sound self.old.inbox }
+        requires there { taken ≤ length (left self.old.inbox) }
+        ensures sound { Sound self.new.inbox }
+        ensures left { left self.new.inbox ≡ drop taken (left self.old.inbox) }
+        ensures village { self.new.village ≡ self.old.village }
+        ensures goes_on { self.new.goes_on ≡ self.old.goes_on }
+        ensures out { self.new.out ≡ self.old.out }
+    {
+        self.inbox.pass(taken);
+        self.things = self.things.saturating_add(1);
+    }
+
+    // Answers the thing at the front of what is left: whether one stands there whole.
+    #[tactic(auto, using(crate::proofs::Steps::taken_follows, crate::proofs::Steps::refused_follows, crate::proofs::Steps::cut_follows))]
+    fn take(&mut self, rt: &HostRuntime) -> Result<bool, Failure>
+        requires sound { Sound self.old.inbox }
+        ensures sound { Sound self.new.inbox }
+        ensures goes_on { self.new.goes_on ≡ self.old.goes_on }
+        ensures follows { OnOk result (Follows self.old.goes_on self.old.village self.old.out.items (left self.old.inbox) self.new.village self.new.out.items (left self.new.inbox)) }
+        ensures short { IfOk result (λ whole. whole ≡ false → length (left self.new.inbox) < 69) }
+    {
+        match self.village.answer(self.inbox.left(), &mut self.out) {
+            Ok(taken) => {
+                self.pass(taken);
+                Ok(true)
+            }
+            Err(Refusal::Memory) => Err(Failure::Memory),
+            Err(
+                Refusal::Fault {
+                    fault: Fault::Message(Cause::Cut),
+                    length: None,
+                },
+            ) => Ok(false),
+            Err(Refusal::Fault { fault, length }) => {
+                let taken = self.refuse(rt, fault, length)?;
+                self.pass(taken);
+                Ok(true)
+            }
+        }
+    }
+
+    // Answers a thing, or waits for more where none is there whole: whether the input has ended.
+    #[tactic(auto, using(crate::proofs::Steps::follows_stays, crate::proofs::Steps::more_stays, crate::proofs::Steps::flush_stays))]
+    fn step<R: Read, W: Write>(
+        &mut self,
+        rt: &HostRuntime,
+        input: &mut R,
+        output: &mut W,
+    ) -> Result<bool, Failure>
+        requires sound { Sound self.old.inbox }
+        ensures goes_on { self.new.goes_on ≡ self.old.goes_on }
+        ensures sound { OnOk result (Sound self.new.inbox) }
+        ensures stays { OnOk result (Stays (outcome self.old.goes_on (W.contents output.old) self.old.village self.old.out.items (left self.old.inbox) (R.remaining input.old)) (outcome self.old.goes_on (W.contents output.new) self.new.village self.new.out.items (left self.new.inbox) (R.remaining input.new))) }
+        ensures ended { IfOk result (λ ended. ended ≡ true → (self.new.out.items ≡ []) × (left self.new.inbox ≡ []) × IsAtEnd (R.remaining input.new)) }
+    {
+        if !self.take(rt)? {
+            return self.wait(rt, input, output);
+        }
+        if self.out.len() > WAITING {
+            self.flush(rt, output)?;
+            return Ok(false);
+        }
+        Ok(false)
+    }
+
+    // Goes on to the end of the input, or to the first thing that stops the box.
+    #[tactic(auto, using(crate::proofs::Steps::stays_on, crate::proofs::Steps::over))]
+    fn go<R: Read, W: Write>(
+        &mut self,
+        rt: &HostRuntime,
+        input: &mut R,
+        output: &mut W,
+    ) -> Result<(), Failure>
+        requires sound { Sound self.old.inbox }
+        ensures stays { OnOk result (Over (outcome self.old.goes_on (W.contents output.old) self.old.village self.old.out.items (left self.old.inbox) (R.remaining input.old)) (W.contents output.new)) }
+    {
+        // as many steps as no run makes
+        for _ in 0..u64::MAX {
+            if self.step(rt, input, output)? {
+                return Ok(());
+            }
+        }
+        let error = ErrorKind::Other.into();
+        Err(unmoved(rt.alloc(), "standard input", error))
+    }
+}
+
+// Runs a village's box over an input, to its end or to the first thing that stops it; what was told before that is written.
+#[tactic(auto, using(crate::proofs::Steps::served))]
+pub(crate) fn serve<R: Read, W: Write>(
+    rt: &HostRuntime,
+    village: Village,
+    goes_on: bool,
+    input: &mut R,
+    output: &mut W,
+) -> Result<(), Failure>
+    ensures { OnOk result (Served goes_on village (W.contents output.old) (R.remaining input.old) (W.contents output.new)) }
+{
+    let mut station = Station::new(rt, village, goes_on)?;
+    let done = station.go(rt, input, output);
+    if done.is_err() {
+        let _ = station.flush(rt, output);
+    }
+    done
+}
