@@ -1,7 +1,7 @@
 #!/bin/sh
 # box.sh: times `box` at 63 neighbours and 256 blocks, with ways that change what is gone by, ways that don't, ways taken back,
 # packets and turns, beside an independent program in plain Rust (box.rs), and compares what the two write, byte by byte. Run by hand; it
-# needs rustc. Each time is the best of five; that of the start, which each begins with, is taken off before things are counted.
+# needs rustc. Each time is the best of nine; that of the start, which each begins with, is taken off before things are counted.
 # `valgrind`, where it is there, counts instructions, the start's taken off too.
 root=$(cd "$(dirname "$0")/.." && pwd) || exit 1
 work=$(mktemp -d) || exit 1
@@ -10,11 +10,11 @@ rustc -O --edition 2021 -o "$work/other" "$root/bench/box.rs" || exit 1
 python3 "$root/bench/make_things.py" "$work" > "$work/counts" || exit 1
 "$root/bin/box" --help >/dev/null || exit 1
 ours=$root/crates/village_box/out/village_box
-# seconds of each of the two over a file, the best of five in turn; what each writes last stands in a file
+# seconds of each of the two over a file, the best of nine in turn; what each writes last stands in a file
 best() { python3 -c 'import subprocess,sys,time
 things, work, *programs = sys.argv[1:]
 best = [9e9, 9e9]
-for _ in range(5):
+for _ in range(9):
     for k, program in enumerate(programs):
         with open(f"{work}/out{k}", "wb") as out, open(things, "rb") as data:
             start = time.perf_counter()
