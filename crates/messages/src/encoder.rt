@@ -1,5 +1,5 @@
 // Writing a message.
-ghost use Rattle.std.specs.Prelude.{◌≡◌, ◌/◌, ◌%◌, [], ◌∷◌, ◌++◌, cond, if◌then◌else◌, is_ok};
+ghost use Rattle.std.specs.Prelude.{◌≡◌, ◌+◌, ◌≤◌, ◌/◌, ◌%◌, [], ◌∷◌, ◌++◌, cond, length, if◌then◌else◌, is_ok, IsOk, vec_capacity, vec_len};
 ghost use Rattle.text.specs.Dotted.{byte0, byte1, byte2, byte3};
 ghost use Rattle.messages.specs.Encoding.{bytes_of};
 ghost use Rattle.links.specs.Held.{announcement};
@@ -16,7 +16,8 @@ const MOST_BYTES: usize = 69;
 
 // A way to a network; nothing of a path that has no networks or more than 64.
 fn write_way(out: &mut Vec<u8>, network: u8, way: &Announcement) -> Result<(), AllocError>
-    ensures { out.new.items ≡ (if is_ok result then out.old.items ++ bytes_of (record { network = network; thing = update (announcement way.now) }) else out.old.items) }
+    ensures items { out.new.items ≡ (if is_ok result then out.old.items ++ bytes_of (record { network = network; thing = update (announcement way.now) }) else out.old.items) }
+    ensures succeeds { vec_len out.old + length (bytes_of (record { network = network; thing = update (announcement way.now) })) ≤ vec_capacity out.old → IsOk result }
 {
     let Some(path) = way.path() else {
         return Ok(());
@@ -53,9 +54,11 @@ fn turn(network: u8, other: u8, up: bool) -> [u8; 4]
 }
 
 // Writes a message behind what is there. Of an announcement of a path that has no networks or more than 64 nothing is
-// written. Where memory ends, nothing is changed.
+// written. Where memory ends, nothing is changed; it does
+// not where there is room for the message.
 pub fn write(out: &mut Vec<u8>, message: &Message) -> Result<(), AllocError>
-    ensures { out.new.items ≡ (if is_ok result then out.old.items ++ bytes_of (message_of message.now) else out.old.items) }
+    ensures items { out.new.items ≡ (if is_ok result then out.old.items ++ bytes_of (message_of message.now) else out.old.items) }
+    ensures succeeds { vec_len out.old + length (bytes_of (message_of message.now)) ≤ vec_capacity out.old → IsOk result }
 {
     match &message.thing {
         Thing::Update(Update::Announce(way)) => write_way(out, message.network, way),
