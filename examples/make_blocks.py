@@ -20,10 +20,9 @@ def write(name, blocks):
     assert all(one[1] < other[0] for one, other in zip(numbers, numbers[1:]))
     open(os.path.join(here, name), 'wb').write(encode(blocks))
 
-def for_the_gate(name, data, crates):
-    """Among the data of the programs that are run on it. All but the empty one are refused."""
-    for crate in crates:
-        open(os.path.join(here, '..', 'crates', crate, 'data', name), 'wb').write(data)
+def for_the_gate(name, data):
+    """Among the data of the program that the gate runs. All but the empty one are refused."""
+    open(os.path.join(here, '..', 'crates', 'gate', 'data', name), 'wb').write(data)
 
 def many(count, home): return [(f'10.0.{k >> 8}.{k & 255}', f'10.0.{k >> 8}.{k & 255}', home) for k in range(count)]
 
@@ -34,17 +33,17 @@ write('sixteen.blocks', [('10.0.0.0', '10.0.0.255', 15), ('10.0.1.0', '10.0.1.12
 write('sixty.blocks', [('10.0.0.0', '10.0.255.255', 59), ('10.1.0.0', '10.1.0.255', 27), ('10.1.1.0', '10.1.1.0', 0),
                        ('10.1.1.1', '10.1.1.1', 54), ('255.255.255.0', '255.255.255.255', 24)])
 
-both, second = ('rehearsals', 'settlements'), ('10.0.1.0', '10.0.1.255', 0)
-for_the_gate('kind.blocks', b'\x10' + encode(one)[1:], both)
-for_the_gate('cut.blocks', encode(one)[:-1], both)
-for_the_gate('past.blocks', encode(one) + b'\0', both)
-for_the_gate('head.blocks', encode(one)[:2], both)
-for_the_gate('home.blocks', encode([('10.0.0.0', '10.0.0.255', 3), ('10.0.1.0', '10.0.1.255', 4)]), both)
-for_the_gate('falling.blocks', encode([second, ('10.0.2.0', '10.0.2.0', 0)] + one), both)
-for_the_gate('twice.blocks', encode([second, second]), both)
-for_the_gate('turned.blocks', encode([('10.0.0.255', '10.0.0.0', 0)]), both)
-for_the_gate('overlap.blocks', encode(one + [('10.0.0.255', '10.0.1.0', 0)]), both)
-for_the_gate('first.blocks', encode(one + [('9.0.0.0', '8.0.0.0', 4)]), both)
-for_the_gate('empty.blocks', encode([]), both)
-for_the_gate('surplus.blocks', encode(many(257, 0)), both)
-for_the_gate('sixty-five.blocks', encode(many(65, 0)), ('rehearsals',))
+second = ('10.0.1.0', '10.0.1.255', 0)
+for_the_gate('kind.blocks', b'\x10' + encode(one)[1:])
+for_the_gate('cut.blocks', encode(one)[:-1])
+for_the_gate('past.blocks', encode(one) + b'\0')
+for_the_gate('head.blocks', encode(one)[:2])
+for_the_gate('home.blocks', encode([('10.0.0.0', '10.0.0.255', 3), ('10.0.1.0', '10.0.1.255', 4)]))
+for_the_gate('falling.blocks', encode([second, ('10.0.2.0', '10.0.2.0', 0)] + one))
+for_the_gate('twice.blocks', encode([second, second]))
+for_the_gate('turned.blocks', encode([('10.0.0.255', '10.0.0.0', 0)]))
+for_the_gate('overlap.blocks', encode(one + [('10.0.0.255', '10.0.1.0', 0)]))
+for_the_gate('first.blocks', encode(one + [('9.0.0.0', '8.0.0.0', 4)]))
+for_the_gate('empty.blocks', encode([]))
+for_the_gate('surplus.blocks', encode(many(257, 0)))
+for_the_gate('sixty-five.blocks', encode(many(65, 0)))

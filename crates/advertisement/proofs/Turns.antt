@@ -1,20 +1,21 @@
 -- One neighbour after another is told. Assumes nothing.
-use Rattle.std.proofs.Common.{◌≡◌, ℕ, ◌+◌, ◌<◌, Bool, true, cond, not, ◌&&◌, ◌||◌, eqb, ltb, List, None, Option, sym, ap, ◌∙◌, ⊎_elim, arith}
+use Rattle.std.proofs.Common.{◌≡◌, ℕ, ◌+◌, ◌<◌, Bool, true, cond, not, ◌&&◌, ◌||◌, eqb, ltb, None, sym, ap, ◌∙◌, ⊎_elim, arith}
 use Rattle.std.proofs.lemmas.Bool.{cases_Bool, cases_eq, cond-true}
 use Rattle.std.proofs.lemmas.Bool.Decides.{nat_tests}
 use Rattle.selection.specs.Rows.{Rows, with_row}
-use Rattle.advertisement.specs.Sayings.{same_saying}
+use Rattle.model.specs.Export.{same_saying}
+use Rattle.model.specs.Selection.{Said}
 
 -- the rows after the neighbours below k were told what `says` has for each, if their link is up
-abbrev pub Below : Rows → ℕ → ℕ → (ℕ → Bool) → (ℕ → Option (List ℕ)) → ℕ → Rows → Type 0
+abbrev pub Below : Rows → ℕ → ℕ → (ℕ → Bool) → (ℕ → Said) → ℕ → Rows → Type 0
 Below before n block up says k rows = (b j : ℕ) → rows b j ≡ cond (eqb b block && ltb b n && ltb j k && up j) (says j) (before b j)
 
 -- to which of them that was something else
-abbrev pub Heard : Rows → ℕ → ℕ → (ℕ → Bool) → (ℕ → Option (List ℕ)) → ℕ → (ℕ → Bool) → Type 0
+abbrev pub Heard : Rows → ℕ → ℕ → (ℕ → Bool) → (ℕ → Said) → ℕ → (ℕ → Bool) → Type 0
 Heard before n block up says k whom = (j : ℕ) → whom j ≡ (ltb block n && ltb j k && up j && not (same_saying (says j) (before block j)))
 
 -- one more neighbour, k, which is told t if its link is up, and added if that was something else
-module _ (before : Rows) (n block : ℕ) (up : ℕ → Bool) (says : ℕ → Option (List ℕ)) (k : ℕ) (rows : Rows) (whom : ℕ → Bool) (inv : Below before n block up says k rows) (heard : Heard before n block up says k whom) (m : ℕ) (same : m ≡ n) (h : k < 64) (t : Option (List ℕ)) (is : says k ≡ cond (up k) t None) where
+module _ (before : Rows) (n block : ℕ) (up : ℕ → Bool) (says : ℕ → Said) (k : ℕ) (rows : Rows) (whom : ℕ → Bool) (inv : Below before n block up says k rows) (heard : Heard before n block up says k whom) (m : ℕ) (same : m ≡ n) (h : k < 64) (t : Said) (is : says k ≡ cond (up k) t None) where
   next_below : (new : Rows) → ((b j : ℕ) → new b j ≡ cond (up k && (ltb block m && ltb k 64)) (with_row rows block k t b j) (rows b j)) → Below before n block up says (k + 1) new
   next_below new after b j =
       let i = inv b j in

@@ -1,5 +1,3 @@
-pub mod Telling
-pub mod Sayings
+-- Updates as code holds them, and what a network among its neighbours tells of a block, and to whom.
 pub mod Updates
-pub mod Audiences
-pub mod Laws
+pub mod Telling

@@ -1,38 +1,49 @@
--- What a network tells each neighbour. Assumes nothing.
-use Rattle.std.specs.Prelude.{ℕ, Bool, true, false, cond, List, [], ◌∷◌, length, Some, None, Option, nat_lt}
-use Rattle.relations.specs.declared.relation.Relation.{Relation}
-use Rattle.relations.specs.declared.relation.Relation.TheVariants.{Unrelated, Customer, Peer, Provider}
-use Rattle.selection.specs.Choosing.{Choice, nothing, local, via, related}
+-- What a network among its neighbours tells of a block, and to whom it is something new. Assumes nothing.
+use Rattle.std.specs.Prelude.{◌≡◌, ℕ, Bool, false, cond, not, ◌&&◌, List, map, nat_eq, nat_lt, slice_index_or}
+use Rattle.model.specs.Export.{same_saying, tells, told}
+use Rattle.model.specs.Ports.{Port}
+use Rattle.model.specs.Selection.{Said}
+use Rattle.selection.specs.Meaning.{meaning}
+use Rattle.selection.specs.Nodes.{link_up, networks_around, relation_to}
+use Rattle.selection.specs.Changes.{has_row}
+use Rattle.selection.specs.Paths.{count, row}
+use Rattle.selection.specs.Rows.{Rows, with_row}
+use Rattle.selection.specs.Sets.{member}
+use Rattle.selection.specs.declared.node.Node.{Node}
+use Rattle.selection.specs.declared.route.Route.{Route}
+use Rattle.selection.specs.declared.set.NetworkSet.{NetworkSet}
+use Rattle.selection.specs.declared.table.PathTable.{PathTable}
 
--- who may be told a path: by what the neighbour is that told it, and what the neighbour is that would be told
-abbrev pub may_tell : Relation → Relation → Bool
-may_tell Customer Customer = true
-may_tell Customer Peer = true
-may_tell Customer Provider = true
-may_tell Customer Unrelated = false
-may_tell Peer Customer = true
-may_tell Peer Peer = false
-may_tell Peer Provider = false
-may_tell Peer Unrelated = false
-may_tell Provider Customer = true
-may_tell Provider Peer = false
-may_tell Provider Provider = false
-may_tell Provider Unrelated = false
-may_tell Unrelated Customer = false
-may_tell Unrelated Peer = false
-may_tell Unrelated Provider = false
-may_tell Unrelated Unrelated = false
+-- what it tells at a port over a link that is up, as it goes
+abbrev pub told_at : Node → Route → Port → Said
+told_at node route k = told (relation_to node) node.me k (meaning route)
 
--- the path with the network itself put in front; one of 64 networks passes all that there may be, and is told to nobody
-abbrev pub in_front : ℕ → List ℕ → Option (List ℕ)
-in_front me p = cond (nat_lt (length p) 64) (Some (me ∷ p)) None
+-- what it tells there whether the link is up or not
+abbrev pub tells_at : Node → Route → Port → Said
+tells_at node route k = tells (relation_to node) (link_up node) node.me k (meaning route)
 
--- what a network tells neighbour k over a link that is up, where rel says what its neighbours are to it
-abbrev pub told : (ℕ → Relation) → ℕ → ℕ → Choice → Option (List ℕ)
-told rel me k nothing = None
-told rel me k local = cond (related (rel k)) (Some (me ∷ [])) None
-told rel me k (via j p) = cond (may_tell (rel j) (rel k)) (in_front me p) None
+-- a table has a row for a block and a port, and this is something else than what stands there
+abbrev pub is_news : PathTable → ℕ → Port → Said → Bool
+is_news t block k says = has_row t block k && not (same_saying says (row t block k))
 
--- nothing is told over a link that is down
-abbrev pub tells : (ℕ → Relation) → (ℕ → Bool) → ℕ → ℕ → Choice → Option (List ℕ)
-tells rel up me k c = cond (up k) (told rel me k c) None
+-- the rows of a table, but for one where this is so
+abbrev pub row_if : Bool → PathTable → ℕ → Port → Said → Rows
+row_if there t block k says b j = cond there (with_row (row t) block k says b j) (row t b j)
+
+-- the rows of a table after each neighbour whose link is up was told of a block
+abbrev pub rows_told : PathTable → Node → ℕ → Route → Rows
+rows_told t node block route b k =
+    cond (nat_eq b block && nat_lt b (count t) && nat_lt k (networks_around node) && link_up node k)
+    (tells_at node route k) (row t b k)
+
+-- those to whom that was something new
+abbrev pub Told : PathTable → Node → ℕ → Route → NetworkSet → Type 0
+Told t node block route audience =
+    (k : ℕ) →
+    member audience k ≡
+    (nat_lt block (count t) && nat_lt k (networks_around node) && link_up node k &&
+    not (same_saying (tells_at node route k) (row t block k)))
+
+-- by block, whether a network is one of those that are to be told
+abbrev pub in_audience : List NetworkSet → ℕ → ℕ → Bool
+in_audience audiences block = slice_index_or (map member audiences) block (λ k. false)

@@ -1,14 +1,17 @@
-// What one network tells another of a block: a path, or that it takes back what it told.
-ghost use Rattle.std.specs.Prelude.{◌≡◌, ◌≤◌, ◌&&◌, length, take, is_some, IfSome, if◌then◌else◌, Some, None, nat_le, nat_lt};
+//! What one network tells another of a block: a path, or that it takes back what it told.
+ghost use Rattle.std.specs.Prelude.{◌≡◌, ◌≤◌, ◌&&◌, length, is_some, IfSome, Some, None, nat_le, nat_lt};
 ghost use Rattle.std.specs.Option.{option_map};
 ghost use Rattle.selection.specs.Paths.{row};
-ghost use Rattle.advertisement.specs.Updates.{block_of, said};
+ghost use Rattle.model.specs.Paths.{path_over};
+ghost use Rattle.model.specs.declared.limits.TheConstants.{MOST_NETWORKS};
+ghost use Rattle.advertisement.specs.Updates.{block_of, networks_of, said};
 
 use relations::MOST;
 use selection::PathTable;
 
-// The path is the first `length` of the networks, and what stands past them says nothing. Who hears it refuses a length
-// of 0 or above 64. An array and a length, since an update goes by value, in fixed memory, as its sender made it.
+/// A path for a block, as its sender made it: the first `length` of the networks, the sender first
+/// and the home last. What stands past them says nothing. Who hears it refuses a length of 0 or
+/// above 64.
 #[derive(Clone, Copy)]
 pub struct Announcement {
     pub block: u16,
@@ -16,8 +19,7 @@ pub struct Announcement {
     pub networks: [u8; 64],
 }
 
-// An enum, and no struct of a block and an `Option`: `Announcement`, in the form that the project asks for, has the block in
-// it.
+/// What one network tells another of a block: a path, or that it takes back what it told.
 #[derive(Clone, Copy)]
 pub enum Update {
     Announce(Announcement),
@@ -25,9 +27,9 @@ pub enum Update {
 }
 
 impl Announcement {
-    // The path, as the part of the array where it stands; none for a length of 0 or above 64.
+    /// The path, as the part of the array where it stands; none for a length of 0 or above 64.
     pub fn path(&self) -> Option<&[u8]>
-        ensures { option_map (λ x. x.now) result ≡ (if nat_lt 0 self.now.length && nat_le self.now.length 64 then Some (take self.now.length self.now.networks) else None) }
+        ensures { option_map (λ x. x.now) result ≡ networks_of self.now }
     {
         if self.length == 0 {
             return None;
@@ -37,10 +39,12 @@ impl Announcement {
 }
 
 impl Update {
-    // The announcement of a path; none for a path of no network or of more than 64.
+    /// The announcement of a path; none for a path of no network or of more than 64.
     pub fn announce(block: u16, path: &[u8]) -> Option<Self>
-        ensures test { is_some result ≡ (nat_lt 0 (length path.now) && nat_le (length path.now) 64) }
-        ensures says { IfSome result (λ u. (block_of u ≡ block) × (said u ≡ Some path.now)) }
+        ensures test { is_some result
+            ≡ (nat_lt 0 (length path.now) && nat_le (length path.now) MOST_NETWORKS) }
+        ensures says { IfSome result
+            (λ u. (block_of u ≡ block) × (said u ≡ Some (path_over path.now))) }
     {
         if path.is_empty() || path.len() > MOST as usize {
             return None;
@@ -48,14 +52,14 @@ impl Update {
         Some(announced(block, path))
     }
 
-    // What takes back the path of a block.
+    /// What takes back the path of a block.
     pub fn withdraw(block: u16) -> Self
         ensures { (block_of result ≡ block) × (said result ≡ None) }
     {
         Self::Withdraw { block }
     }
 
-    // The block that it is of.
+    /// The block that it is of.
     pub fn block(&self) -> u16
         ensures { result ≡ block_of self.now }
     {
@@ -66,7 +70,7 @@ impl Update {
     }
 }
 
-// What stands in a row of the table, as the update that tells it.
+/// What stands in a row of the table, as the update that tells it.
 pub fn update_of(table: &PathTable, block: u16, neighbour: u8) -> Update
     ensures { (block_of result ≡ block) × (said result ≡ row table.now block neighbour) }
 {
@@ -78,8 +82,8 @@ pub fn update_of(table: &PathTable, block: u16, neighbour: u8) -> Update
 
 // The announcement of a path that fits.
 fn announced(block: u16, path: &[u8]) -> Update
-    requires { length path.now ≤ 64 }
-    ensures { (block_of result ≡ block) × (said result ≡ Some path.now) }
+    requires { length path.now ≤ MOST_NETWORKS }
+    ensures { (block_of result ≡ block) × (said result ≡ Some (path_over path.now)) }
 {
     let mut networks = [0; 64];
     networks[..path.len()].copy_from_slice(path);

@@ -4,17 +4,18 @@ use Rattle.std.proofs.lemmas.Bool.Decides.{nat_tests}
 use Rattle.std.proofs.lemmas.Bool.{cases_eq, leb-false}
 use Rattle.std.proofs.lemmas.List.{length_push, get_or_push, get_or_append_left}
 use Rattle.blocks.specs.Ranges.{Orderly}
-use Rattle.blocks.specs.Fit.{before, share, told}
+use Rattle.blocks.specs.Fit.{before, share, unfit}
 use Rattle.blocks.specs.declared.block_list.Block.{Block}
+use Rattle.blocks.specs.declared.block_list.methods.TheConstants.{MOST}
 
 -- what it means that nothing is said against a block
 pub record Fits (firsts lasts : List ℕ) (first last : ℕ) : Type 0 where
   pub rises : 0 < length firsts → get_or firsts (before firsts) 0 < first
   pub straight : first ≤ last
-  pub room : length firsts < 256
+  pub room : length firsts < MOST
   pub apart : 0 < length firsts → get_or lasts (before firsts) 0 < first
 
-pub fits : (firsts lasts : List ℕ) (block : Block) → Orderly firsts lasts → told firsts lasts block ≡ None → Fits firsts lasts block.first.0 block.last.0
+pub fits : (firsts lasts : List ℕ) (block : Block) → Orderly firsts lasts → unfit firsts lasts block ≡ None → Fits firsts lasts block.first.0 block.last.0
 fits firsts lasts block o e =
     let up : 0 < length firsts → get_or firsts (before firsts) 0 < block.first.0 = λ h. grind (arith, nat_tests) in
     let low : block.first.0 ≤ block.last.0 = grind (arith, nat_tests) in
@@ -44,5 +45,5 @@ grown firsts lasts first last o f =
           (cases_eq (suc b) (length firsts));
     }
 
-pub stands : (firsts lasts firsts' lasts' : List ℕ) (block : Block) → firsts' ≡ firsts ++ block.first.0 ∷ [] → lasts' ≡ lasts ++ block.last.0 ∷ [] → told firsts lasts block ≡ None → Orderly firsts lasts → Orderly firsts' lasts'
+pub stands : (firsts lasts firsts' lasts' : List ℕ) (block : Block) → firsts' ≡ firsts ++ block.first.0 ∷ [] → lasts' ≡ lasts ++ block.last.0 ∷ [] → unfit firsts lasts block ≡ None → Orderly firsts lasts → Orderly firsts' lasts'
 stands firsts lasts firsts' lasts' block e f told o = rw (e, f) (grown firsts lasts block.first.0 block.last.0 o (fits firsts lasts block o told))

@@ -1,4 +1,12 @@
 pub mod Ranges
+pub mod Shown
 pub mod Fit
 pub mod Encoding
+pub mod Number
+pub mod Words
+pub mod Unfit
+pub mod File
+pub mod Faults
+pub mod Steps
+pub mod Outcome
 pub mod Laws

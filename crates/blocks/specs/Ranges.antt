@@ -1,5 +1,6 @@
 -- Blocks of addresses: which block holds an address. Assumes nothing.
-use Rattle.std.specs.Prelude.{◌≡◌, ℕ, zero, suc, ◌<◌, ◌≤◌, Bool, cond, ◌&&◌, List, length, Some, None, Option, nat_le, slice_index}
+use Rattle.std.specs.Prelude.{◌≡◌, ℕ, zero, suc, ◌<◌, ◌≤◌, Bool, true, false, cond, ◌&&◌, List, length, Some, None, Option, nat_le, slice_index}
+use Rattle.blocks.specs.declared.block_list.methods.TheConstants.{MOST}
 
 -- block b holds the addresses from its first to its last, both of these too
 abbrev pub holds : List ℕ → List ℕ → ℕ → ℕ → Bool
@@ -13,15 +14,27 @@ or_else None later = later
 -- the lowest of the first k blocks that holds an address
 unfoldable pub block_among : List ℕ → List ℕ → ℕ → ℕ → Option ℕ
 block_among firsts lasts a zero = None
-block_among firsts lasts a (suc k) = or_else (block_among firsts lasts a k) (cond (holds firsts lasts a k) (Some k) None)
+block_among firsts lasts a (suc k) =
+    or_else (block_among firsts lasts a k) (cond (holds firsts lasts a k) (Some k) None)
 
 -- the block that an address is in
 abbrev pub block_at : List ℕ → List ℕ → ℕ → Option ℕ
 block_at firsts lasts a = block_among firsts lasts a (length firsts)
 
--- at most 256 blocks, each from a first address to a last that is not below it, in rising order, and no two overlap
+-- no block holds an address
+abbrev pub NoneHolds : List ℕ → List ℕ → ℕ → Type 0
+NoneHolds firsts lasts a = (b : ℕ) → b < length firsts → holds firsts lasts a b ≡ false
+
+-- this block holds it and no other does
+abbrev pub OnlyHolds : List ℕ → List ℕ → ℕ → ℕ → Type 0
+OnlyHolds firsts lasts a b =
+    (b < length firsts)
+    × (holds firsts lasts a b ≡ true)
+    × ((c : ℕ) → c < length firsts → holds firsts lasts a c ≡ true → c ≡ b)
+
+-- at most `MOST` blocks, each from a first address to a last that is not below it, in rising order, and no two overlap
 pub record Orderly (firsts lasts : List ℕ) : Type 0 where
-  pub few : length firsts ≤ 256
+  pub few : length firsts ≤ MOST
   pub same : length lasts ≡ length firsts
   pub each : (b : ℕ) → b < length firsts → slice_index firsts b ≤ slice_index lasts b
   pub apart : (b : ℕ) → suc b < length firsts → slice_index lasts b < slice_index firsts (suc b)

@@ -10,7 +10,7 @@ mod methods;
 
 pub use methods::MOST;
 
-// The addresses from a first to a last, both of these too, and their home.
+/// A block: the addresses from a first to a last, both of these too, and the network that is their home.
 #[derive(Clone, Copy, Debug, PartialEq, Eq)]
 pub struct Block {
     pub first: Address,
@@ -18,7 +18,7 @@ pub struct Block {
     pub home: u8,
 }
 
-// Three lists, and no list of blocks: the addresses are lent as slices of words, and the homes as a slice of their own.
+/// At most `MOST` blocks in rising order, no two of which share an address. Block k is the one at place k, from 0.
 #[derive(Drop)]
 pub struct BlockList {
     firsts: Vec<u32>,
@@ -28,18 +28,18 @@ pub struct BlockList {
     ghost homed: { vec_len homes ≡ vec_len firsts },
 }
 
-// Why a block may not stand after those of a list.
+/// Why a block may not stand after those of a list.
 #[derive(Clone, Copy, Debug, PartialEq, Eq)]
 pub enum Unfit {
-    // it does not begin above the block before
+    /// it does not begin above the block before
     NotRising,
-    // its first address is above its last
+    /// its first address is above its last
     Turned,
-    // there are 256 blocks
+    /// there are 256 blocks
     TooMany,
-    // it shares an address with the block before
+    /// it shares an address with the block before
     Overlap,
-    // memory could not be had; the block may be right
+    /// memory could not be had; the block may be right
     Memory,
 }
 

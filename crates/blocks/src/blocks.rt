@@ -1,11 +1,10 @@
 // The blocks of addresses, as they are lent: the first and the last address of each.
-ghost use Rattle.std.specs.Prelude.{◌≡◌, ℕ, ◌<◌, true, false, length, MatchOption, nat_le, slice_index};
-ghost use Rattle.blocks.specs.Ranges.{Begun, Orderly, block_at, holds};
+ghost use Rattle.std.specs.Prelude.{◌≡◌, nat_le};
+ghost use Rattle.blocks.specs.Ranges.{Orderly};
 
 use text::Address;
 
-// Two slices of words of 32 bits, and no slice of pairs: of the forms asked for in docs/DECISIONS.md, lent slices of words are
-// the one for this place.
+/// The addresses of a list of blocks, lent for look-up.
 #[derive(Clone, Copy)]
 pub struct Blocks<'a> {
     pub(crate) firsts: &'a [u32],
@@ -14,11 +13,17 @@ pub struct Blocks<'a> {
 }
 
 impl Blocks<'_> {
-    // The block that holds an address, found by halving.
+    ghost use Rattle.std.specs.Prelude.{◌<◌, length, MatchOption, slice_index};
+    ghost use Rattle.blocks.specs.Ranges.{Begun, NoneHolds, OnlyHolds, block_at};
+    ghost use Rattle.blocks.specs.Shown.{lent_firsts, lent_lasts};
+
+    /// The block that holds an address, found by halving; none if no block does.
     #[tactic(auto, using(crate::proofs::Found::falls_short, crate::proofs::Found::goes_as_far))]
     pub fn find(&self, address: Address) -> Option<u16>
-        ensures block { result ≡ block_at self.now.firsts.now self.now.lasts.now address.0 }
-        ensures one { MatchOption result ((b : ℕ) → b < length self.now.firsts.now → holds self.now.firsts.now self.now.lasts.now address.0 b ≡ false) (λ b. (b < length self.now.firsts.now) × (holds self.now.firsts.now self.now.lasts.now address.0 b ≡ true) × ((c : ℕ) → c < length self.now.firsts.now → holds self.now.firsts.now self.now.lasts.now address.0 c ≡ true → c ≡ b)) }
+        ensures block { result ≡ block_at (lent_firsts self.now) (lent_lasts self.now) address.0 }
+        ensures one { MatchOption result
+            (NoneHolds (lent_firsts self.now) (lent_lasts self.now) address.0)
+            (OnlyHolds (lent_firsts self.now) (lent_lasts self.now) address.0) }
     {
         let block = self.begun(address.0).checked_sub(1)?;
         if !self.reaches(block, address.0) {
@@ -29,15 +34,15 @@ impl Blocks<'_> {
 
     // How many blocks begin at an address or below it.
     fn begun(&self, address: u32) -> usize
-        ensures { Begun self.now.firsts.now address result }
+        ensures { Begun (lent_firsts self.now) address result }
     {
         self.firsts.partition_point(|first| begins(*first, address))
     }
 
     // Whether a block goes as far as an address.
     fn reaches(&self, block: usize, address: u32) -> bool
-        requires { block < length self.now.lasts.now }
-        ensures { result ≡ nat_le address (slice_index self.now.lasts.now block) }
+        requires { block < length (lent_lasts self.now) }
+        ensures { result ≡ nat_le address (slice_index (lent_lasts self.now) block) }
     {
         address <= self.lasts[block]
     }

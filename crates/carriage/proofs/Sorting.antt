@@ -4,19 +4,20 @@ use Rattle.std.specs.List.{flat_map}
 use Rattle.std.proofs.lemmas.Bool.{cases_eq, cases_lt, eq-eqb, le-ltb, ne_eqb}
 use Rattle.std.proofs.lemmas.List.Concat.{flat_map_single}
 use Rattle.std.proofs.lemmas.List.Folds.{flat_map-map}
-use Rattle.advertisement.specs.Sayings.{same_saying}
-use Rattle.links.specs.Hearing.{unless}
-use Rattle.links.specs.Local.{Local, Update, gather, outbox, sends, sent, tells_now}
-use Rattle.links.specs.Packets.{Packet, Passed, arrived, dropped, handed}
-use Rattle.links.specs.Run.{update, packet, onward, updates}
-use Rattle.links.specs.World.{World}
-use Rattle.links.specs.declared.fault.Fault.{Fault}
+use Rattle.model.specs.Export.{same_saying}
+use Rattle.model.specs.Hearing.{unless}
+use Rattle.model.specs.Local.{Local, Update, outbox, sends, sent, tells_now}
+use Rattle.model.specs.Lists.{gather}
+use Rattle.model.specs.Packets.{Packet, Forwarded, arrived, dropped, handed}
+use Rattle.model.specs.Run.{update, packet, onward, updates}
+use Rattle.model.specs.World.{World}
+use Rattle.model.specs.declared.fault.Fault.{Fault}
 use Rattle.messages.specs.Encoding.{thing_bytes}
 use Rattle.messages.specs.Meaning.{Message}
 use Rattle.messages.specs.Meaning as meaning
-use Rattle.relations.proofs.Gathered.{gather_none, gather_one, gather_same}
+use Rattle.model.proofs.Gathered.{gather_none, gather_one, gather_same}
 use Rattle.speaker.proofs.Told.{flat_cond, flat_gather}
-use Rattle.speaker.specs.Rule.{goings, people, tellings}
+use Rattle.speaker.specs.Rule.{packet_messages, people, update_messages}
 use Rattle.carriage.specs.Laws.{item_bytes}
 use Rattle.carriage.specs.Wires.{delivered}
 
@@ -75,23 +76,23 @@ module _ (w : World) (few : w.n ≤ 64) (i : ℕ) (these : ℕ → Bool) (s : Lo
       flat_gather (λ u. thing_bytes (meaning.update u) ∷ []) _ w.blocks ∙
       gather_same _ _ w.blocks (λ b l. flat_cond (λ u. thing_bytes (meaning.update u) ∷ []) (sends w i these s b c) (said b c))
 
-  pub outbox_sorted : (c : ℕ) → flat_map (delivered c) (tellings (outbox w i these s)) ≡ map item_bytes (updates (sent w i these s c))
+  pub outbox_sorted : (c : ℕ) → flat_map (delivered c) (update_messages (outbox w i these s)) ≡ map item_bytes (updates (sent w i these s c))
   outbox_sorted c =
       flat_map-map (delivered c) telling (outbox w i these s) ∙
       flat_gather (λ x. delivered c (telling x)) _ w.blocks ∙
       gather_same _ _ w.blocks (λ b l. flat_gather (λ x. delivered c (telling x)) _ w.n ∙ gather_same _ _ w.n (λ k h. flat_cond (λ x. delivered c (telling x)) (sends w i these s b k) (k, said b k)) ∙ one_hearer c b) ∙
       sym (sent_bytes c)
 
-  pub unless_sorted : (f : Option Fault) (c : ℕ) → flat_map (delivered c) (tellings (unless f [] (outbox w i these s))) ≡ map item_bytes (updates (unless f [] (sent w i these s c)))
+  pub unless_sorted : (f : Option Fault) (c : ℕ) → flat_map (delivered c) (update_messages (unless f [] (outbox w i these s))) ≡ map item_bytes (updates (unless f [] (sent w i these s c)))
   unless_sorted (Some fault) c = refl
   unless_sorted None c = outbox_sorted c
 
 -- a packet goes on to one neighbour, or to the people and is gone
-pub goings_sorted : (p : Packet) (became : Passed) → ((j : ℕ) (q : Packet) → became ≡ handed j q → j < 64) → (c : ℕ) → flat_map (delivered c) (goings p became) ≡ map item_bytes (onward became c)
-goings_sorted p arrived h c =
+pub packets_sorted : (p : Packet) (became : Forwarded) → ((j : ℕ) (q : Packet) → became ≡ handed j q → j < 64) → (c : ℕ) → flat_map (delivered c) (packet_messages p became) ≡ map item_bytes (onward became c)
+packets_sorted p arrived h c =
     append-nil _ ∙ ⊎_elim (λ e. (λ x. cond (not (eq-eqb c people e x) && eqb people c) (thing_bytes (meaning.packet p) ∷ []) [])) (λ ne. elsewhere c (record { network = people; thing = meaning.packet p }) (λ e. ne (sym e))) (cases_eq c people)
-goings_sorted p (dropped why) h c = refl
-goings_sorted p (handed j q) h c =
+packets_sorted p (dropped why) h c = refl
+packets_sorted p (handed j q) h c =
     append-nil _ ∙
     ⊎_elim
     (λ e. there c (record { network = j; thing = meaning.packet q }) (sym e) (let l : j < 64 = h j q refl in λ f. omega arith) ∙ sym (ap (λ b. map item_bytes (cond b (packet q ∷ []) [])) (eq-eqb c j e)))

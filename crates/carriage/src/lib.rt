@@ -1,4 +1,4 @@
-// That boxes whose bytes are carried in order keep the promise of the model.
+//! That boxes whose bytes are carried in order keep the promise of the model.
 #![tactic(auto)]
 
 mod laws;

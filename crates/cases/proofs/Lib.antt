@@ -1,7 +1,6 @@
 mod Lists
-mod Ties
+pub mod Ties
 mod Runs
-mod Refusing
-mod Answered
+pub mod Cycles
 mod Arriving
-mod Rows
+pub mod Rows

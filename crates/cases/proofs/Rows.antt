@@ -1,19 +1,19 @@
 -- The rows hold, by computing. Assumes nothing.
-use Rattle.std.proofs.Common.{◌∙◌, ◌≡◌, ℕ, List, [], ◌∷◌, ◌++◌, length, slice_index_or, refl, arith}
+use Rattle.std.proofs.Common.{◌≡◌, ℕ, List, [], ◌∷◌, ◌++◌, length, slice_index_or, refl, arith}
 use Rattle.std.specs.List.{AllByRecursion}
-use Rattle.selection.specs.Choosing.{Choice, nothing}
-use Rattle.links.specs.Promise.{Lookup}
-use Rattle.links.specs.Run.{begin, start}
-use Rattle.links.specs.Stable.{stable}
-use Rattle.links.specs.World.{Sound}
+use Rattle.model.specs.Selection.{Choice, nothing}
+use Rattle.model.specs.Packets.{Lookup}
+use Rattle.model.specs.Run.{begin}
+use Rattle.model.specs.Steps.{start}
+use Rattle.model.specs.Stable.{stable}
+use Rattle.model.specs.World.{Sound}
 use Rattle.cases.specs.Plays.{Plays}
 use Rattle.cases.specs.Settings.{Setting, up, world}
 use Rattle.cases.specs.Rows.{Holds, Row, Settles}
-use Rattle.cases.specs.Table.{EveryCaseHolds, case_a, case_b, case_c, case_d, case_e, case_f, case_g, a, b, c, d, e, goes_a, goes_b, inside, one_in_flight, outside, to_a, to_b, two_in_flight}
-use Rattle.cases.proofs.Answered.{answers, unpaid}
+use Rattle.cases.specs.Table.{EveryCaseHolds, case_a, case_b, case_c, case_d, case_e, case_f, case_g, a, b, c, d, e, goes_a, goes_b, goes_c, goes_d, goes_e, inside, one_in_flight, outside, to_a, to_b, two_in_flight}
 use Rattle.cases.proofs.Arriving.{along, at_home, found_inside, not_outside, sent_along, sent_at_home, sent_nowhere, sent_to_no_block}
 use Rattle.cases.proofs.Lists.{same_below, values}
-use Rattle.cases.proofs.Refusing.{f_is_refused}
+use Rattle.cases.proofs.Cycles.{f_is_first}
 use Rattle.cases.proofs.Runs.{plays}
 use Rattle.cases.proofs.Ties.{sound}
 
@@ -47,20 +47,34 @@ settled s choices good each same =
       sound = good;
       each = each;
       chosen = same_below s.networks (stable (world s) (up s) 0) (λ i. slice_index_or choices i nothing) same;
-      answered = λ r links x alike found i hi. answers s r links x alike found i hi ∙ same_below s.networks (stable (world s) (up s) 0) (λ i. slice_index_or choices i nothing) same i hi;
     }
 
+pub settles_a : Settles a goes_a
+settles_a = settled a goes_a sound_a refl refl
+
+pub settles_b : Settles b goes_b
+settles_b = settled b goes_b sound_b refl refl
+
+pub settles_c : Settles c goes_c
+settles_c = settled c goes_c sound_c refl refl
+
+pub settles_d : Settles d goes_d
+settles_d = settled d goes_d sound_d refl refl
+
+pub settles_e : Settles e goes_e
+settles_e = settled e goes_e sound_e refl refl
+
 plays_to_a : (at : Lookup) → Plays a at begin to_a
-plays_to_a at = plays a at begin to_a start ((refl, refl, refl, refl), ((refl, refl, refl, refl), tt))
+plays_to_a at = plays a at begin to_a (start (world a)) ((refl, refl, refl, refl), ((refl, refl, refl, refl), tt))
 
 plays_to_b : (at : Lookup) → Plays a at begin to_b
-plays_to_b at = plays a at begin to_b start ((refl, refl, refl, refl), ((refl, refl, refl, refl), ((refl, refl, refl, refl), ((refl, refl, refl, refl), tt))))
+plays_to_b at = plays a at begin to_b (start (world a)) ((refl, refl, refl, refl), ((refl, refl, refl, refl), ((refl, refl, refl, refl), ((refl, refl, refl, refl), tt))))
 
 plays_one_in_flight : (at : Lookup) → Plays a at begin one_in_flight
-plays_one_in_flight at = plays a at begin one_in_flight start ((refl, refl, refl, refl), ((refl, refl, refl, refl), ((refl, refl, refl, refl), ((refl, refl, refl, refl), tt))))
+plays_one_in_flight at = plays a at begin one_in_flight (start (world a)) ((refl, refl, refl, refl), ((refl, refl, refl, refl), ((refl, refl, refl, refl), ((refl, refl, refl, refl), tt))))
 
 plays_two_in_flight : (at : Lookup) → Plays a at begin two_in_flight
-plays_two_in_flight at = plays a at begin two_in_flight start ((refl, refl, refl, refl), ((refl, refl, refl, refl), ((refl, refl, refl, refl), ((refl, refl, refl, refl), ((refl, refl, refl, refl), ((refl, refl, refl, refl), tt))))))
+plays_two_in_flight at = plays a at begin two_in_flight (start (world a)) ((refl, refl, refl, refl), ((refl, refl, refl, refl), ((refl, refl, refl, refl), ((refl, refl, refl, refl), ((refl, refl, refl, refl), ((refl, refl, refl, refl), tt))))))
 
 -- rows that hold, one list after the other
 all_of : (xs ys : List Row) → AllByRecursion Holds xs → AllByRecursion Holds ys → AllByRecursion Holds (xs ++ ys)
@@ -68,22 +82,22 @@ all_of [] ys h k = k
 all_of (x ∷ xs) ys h k = (h.0, all_of xs ys h.1 k)
 
 a_holds : AllByRecursion Holds case_a
-a_holds = (settled a goes_a sound_a refl refl, (plays_to_a, (along a sound_a 3 1 _ (omega arith) refl, (sent_along a sound_a 3 inside (omega arith) found_inside 1 _ refl, (sent_at_home a sound_a 0 inside (omega arith) found_inside refl, (sent_to_no_block a sound_a 3 outside (omega arith) not_outside, tt))))))
+a_holds = (settles_a, (plays_to_a, (along a sound_a 3 1 _ (omega arith) refl, (sent_along a sound_a 3 inside (omega arith) found_inside 1 _ refl, (sent_at_home a sound_a 0 inside (omega arith) found_inside refl, (sent_to_no_block a sound_a 3 outside (omega arith) not_outside, tt))))))
 
 b_holds : AllByRecursion Holds case_b
-b_holds = (settled b goes_b sound_b refl refl, (refl, (refl, (plays_to_b, (along b sound_b 3 2 _ (omega arith) refl, (sent_along b sound_b 3 inside (omega arith) found_inside 2 _ refl, tt))))))
+b_holds = (settles_b, (refl, (refl, (plays_to_b, (along b sound_b 3 2 _ (omega arith) refl, (sent_along b sound_b 3 inside (omega arith) found_inside 2 _ refl, tt))))))
 
 c_holds : AllByRecursion Holds case_c
-c_holds = (settled c _ sound_c refl refl, (unpaid c 2 _ (omega arith) refl (omega arith, refl, (omega arith, refl, (omega arith, refl, refl))), (sent_nowhere c sound_c 2 inside (omega arith) found_inside (λ e. omega (arith, e)) refl, (sent_along c sound_c 3 inside (omega arith) found_inside 1 _ refl, tt))))
+c_holds = (settles_c, (sent_nowhere c sound_c 2 inside (omega arith) found_inside (λ e. omega (arith, e)) refl, (sent_along c sound_c 3 inside (omega arith) found_inside 1 _ refl, tt)))
 
 d_holds : AllByRecursion Holds case_d
-d_holds = (settled d _ sound_d refl refl, (sent_along d sound_d 2 inside (omega arith) found_inside 1 _ refl, tt))
+d_holds = (settles_d, (sent_along d sound_d 2 inside (omega arith) found_inside 1 _ refl, tt))
 
 e_holds : AllByRecursion Holds case_e
-e_holds = (settled e _ sound_e refl refl, (at_home e sound_e, (sent_at_home e sound_e 0 inside (omega arith) found_inside refl, tt)))
+e_holds = (settles_e, (at_home e sound_e, (sent_at_home e sound_e 0 inside (omega arith) found_inside refl, tt)))
 
 f_holds : AllByRecursion Holds case_f
-f_holds = (f_is_refused, tt)
+f_holds = (f_is_first, tt)
 
 g_holds : AllByRecursion Holds case_g
 g_holds = (plays_one_in_flight, (plays_two_in_flight, tt))

@@ -1,11 +1,13 @@
 -- Runs of a few steps, and how it stands after them, computed. Assumes nothing.
 use Rattle.std.proofs.Common.{◌≡◌, ℕ, ◌<◌, Bool, true, not, ◌&&◌, eqb, List, [], ◌∷◌, nat_lt, slice_index_or, refl, arith}
 use Rattle.std.proofs.lemmas.Bool.Decides.{nat_tests}
-use Rattle.selection.specs.Choosing.{nothing, related}
-use Rattle.links.specs.World.{World}
-use Rattle.links.specs.Local.{choice}
-use Rattle.links.specs.Promise.{Lookup}
-use Rattle.links.specs.Run.{Item, Reach, State, hears as hears_one, links, turns, move, change}
+use Rattle.model.specs.Selection.{nothing}
+use Rattle.model.specs.Relations.{related}
+use Rattle.model.specs.World.{World}
+use Rattle.model.specs.Local.{choice}
+use Rattle.model.specs.Packets.{Lookup}
+use Rattle.model.specs.Run.{Item, Reach, State, links}
+use Rattle.model.specs.Steps.{hears as hears_one, turns, move, change}
 use Rattle.cases.specs.Settings.{Setting, up, world}
 use Rattle.cases.specs.Plays.{Plays, Stage, Standing, Stands, Step, hear, hears, in_flight, played, stepped, turn}
 use Rattle.cases.proofs.Lists.{same_below, same_below_both, values}

@@ -1,10 +1,10 @@
 -- Runs of a few steps, and how it stands after them. Assumes nothing.
 use Rattle.std.specs.Prelude.{◌≡◌, ℕ, ◌<◌, Bool, cond, ◌&&◌, List, [], ◌∷◌, map, ◌==◌, slice_index_or}
-use Rattle.selection.specs.Choosing.{Choice, nothing}
-use Rattle.links.specs.World.{World}
-use Rattle.links.specs.Local.{Said, choice}
-use Rattle.links.specs.Promise.{Lookup}
-use Rattle.links.specs.Run.{Item, update, State, links, Reach, taken, turned}
+use Rattle.model.specs.Selection.{Choice, nothing, Said}
+use Rattle.model.specs.World.{World}
+use Rattle.model.specs.Local.{choice}
+use Rattle.model.specs.Packets.{Lookup}
+use Rattle.model.specs.Run.{Item, update, State, links, Reach, taken, turned}
 use Rattle.cases.specs.Settings.{Setting, up, world}
 
 -- the link of two networks turns, or the second hears the oldest that is in flight from the first
@@ -18,7 +18,7 @@ hears w at i j [] s = s
 hears w at i j (x ∷ rest) s = taken w at i j x rest s
 
 abbrev pub stepped : World → Lookup → Step → State → State
-stepped w at (turn i j b) s = turned w i j b s
+stepped w at (turn i j b) s = turned w at i j b s
 stepped w at (hear i j) s = hears w at i j (s.flight i j) s
 
 -- one step after the other
@@ -61,4 +61,5 @@ pub record Stage : Type 0 where
 -- it stands as told after each stage
 abbrev pub Plays : Setting → Lookup → State → List Stage → Type 0
 Plays s at t [] = Unit {0}
-Plays s at t (stage ∷ later) = Stands s at (played (world s) at stage.steps t) stage.then × Plays s at (played (world s) at stage.steps t) later
+Plays s at t (stage ∷ later) =
+    Stands s at (played (world s) at stage.steps t) stage.then × Plays s at (played (world s) at stage.steps t) later

@@ -1,9 +1,10 @@
 -- A few networks: their ties, the links that are down, and a home. Assumes nothing.
-use Rattle.std.specs.Prelude.{ℕ, Bool, false, not, ◌&&◌, ◌||◌, List, [], ◌∷◌, ◌==◌}
-use Rattle.relations.specs.Between.{Between, related, unrelated, with_pair}
-use Rattle.relations.specs.declared.relation.Relation.TheVariants.{Peer, Provider}
-use Rattle.links.specs.Stable.{Links}
-use Rattle.links.specs.World.{World}
+use Rattle.std.specs.Prelude.{ℕ, Bool, false, cond, not, ◌&&◌, ◌||◌, List, [], ◌∷◌, ◌==◌}
+use Rattle.model.specs.Relations.{Between, related}
+use Rattle.model.specs.Selection.{by_keys}
+use Rattle.model.specs.Stable.{Links}
+use Rattle.model.specs.World.{World}
+use Rattle.model.specs.declared.relation.Relation.TheVariants.{Unrelated, Customer, Peer, Provider}
 
 -- two networks that are tied: the first is the second's customer, or they are peers
 pub data Tie : Type 0 where
@@ -19,12 +20,19 @@ pub record Setting : Type 0 where
 
 -- what networks are to each other by these ties, as both ends say
 abbrev pub tied : List Tie → Between
-tied [] = unrelated
-tied (customer_of i j ∷ ties) = with_pair (tied ties) i j Provider
-tied (peers i j ∷ ties) = with_pair (tied ties) i j Peer
+tied [] i j = Unrelated
+tied (customer_of a b ∷ ties) i j =
+    cond (i == a && j == b) Provider (cond (i == b && j == a) Customer (tied ties i j))
+tied (peers a b ∷ ties) i j = cond (i == a && j == b) Peer (cond (i == b && j == a) Peer (tied ties i j))
 
 abbrev pub world : Setting → World
-world s = record { n = s.networks; rel = tied s.ties; blocks = 1; home = λ b. s.home }
+world s = record {
+  n = s.networks;
+  rel = tied s.ties;
+  order = λ i. by_keys (tied s.ties i);
+  blocks = 1;
+  is_home = λ b i. i == s.home;
+}
 
 -- the link of i and j is one of these
 abbrev pub among : List (ℕ × ℕ) → ℕ → ℕ → Bool

@@ -1,4 +1,4 @@
-// The examples of the rules, each as a row of one table.
+//! The examples of the rules, each as a row of one table.
 #![tactic(auto)]
 
 mod laws;

@@ -2,15 +2,16 @@
 -- Assumes nothing.
 use Rattle.std.proofs.Common.{◌≡◌, ℕ, ◌<◌, Bool, true, false, cond, eqb, ltb, Some, None, Option, sym, refl, ap, ◌∙◌, subst}
 use Rattle.std.proofs.lemmas.Bool.{and_from, and_left, and_right, both_ways, cond-true, cond-false, lt-ltb}
-use Rattle.selection.specs.Choosing.{choose, shorter}
-use Rattle.advertisement.specs.Telling.{tells}
-use Rattle.links.specs.declared.fault.Fault.{Fault}
-use Rattle.links.specs.World.{World}
-use Rattle.links.specs.Local.{Update, Local, at, due, retold, tells_now}
-use Rattle.links.specs.Hearing.{after_hearing, after_turning, every, forgotten, hearing_fault, only, replaced, turning_fault, unless}
-use Rattle.links.specs.Run.{update, packet, State, Move, hears, Change, turns, Send, Reach, start, move, change, send}
-use Rattle.links.specs.Run as Run
-use Rattle.links.specs.Promise.{Lookup}
+use Rattle.model.specs.Selection.{choose}
+use Rattle.model.specs.Export.{tells}
+use Rattle.model.specs.declared.fault.Fault.{Fault}
+use Rattle.model.specs.World.{World}
+use Rattle.model.specs.Local.{Update, Local, at, due, retold, tells_now}
+use Rattle.model.specs.Hearing.{after_hearing, after_turning, every, forgotten, hearing_fault, only, replaced, turning_fault, unless}
+use Rattle.model.specs.Run.{update, packet, State, Move, Change, Send, Reach}
+use Rattle.model.specs.Steps.{hears, turns, start, move, change, send}
+use Rattle.model.specs.Steps as Steps
+use Rattle.model.specs.Packets.{Lookup}
 use Rattle.convergence.proofs.Places.{at_cases, at_other}
 
 pub record Coherent (w : World) (i : ℕ) (l : Local) : Type 0 where
@@ -44,7 +45,7 @@ hear_coherent w i j u l h = by (hearing_fault w i l j u)
     by (Some f) = h
     by None =
         retold_coherent w i (only u.block) (replaced j u l)
-        (λ b k e hb hk up. h.told b k hb hk up ∙ ap (λ r. tells (w.rel i) l.up i k (choose shorter (w.rel i) l.up i (w.home b) r w.n)) (sym (row b e)))
+        (λ b k e hb hk up. h.told b k hb hk up ∙ ap (λ r. tells (w.rel i) l.up i k (choose (w.order i) (w.rel i) l.up i (w.is_home b i) r w.n)) (sym (row b e)))
         h.untold
 
 turn_coherent : (w : World) (i j : ℕ) (up : Bool) (l : Local) → Coherent w i l → Coherent w i (after_turning w i j up l)
@@ -56,22 +57,27 @@ turn_coherent w i j up l h = by (turning_fault w i j)
         retold_coherent w i every (forgotten j up l) (λ b k e hb hk _. absurd (both_ways true e refl))
         (λ b k down. at_cases (λ x. x ≡ None) j None (l.advertised b) k (λ _. refl) (λ ne. h.untold b k (sym (at_other j up l.up k ne) ∙ down)))
 
-move_coherent : (w : World) (find : Lookup) {s t : State} → ((i : ℕ) → Coherent w i (s.locals i)) → Move w find s t → (i : ℕ) → Coherent w i (t.locals i)
-move_coherent w find h (hears s i j (update u) rest hi hj e) a =
-    at_cases (Coherent w a) j (after_hearing w j i u (s.locals j)) s.locals a (λ f. subst (λ y. Coherent w y (after_hearing w j i u (s.locals j))) (sym f) (hear_coherent w j i u (s.locals j) (h j))) (λ _. h a)
-move_coherent w find h (hears s i j (packet p) rest hi hj e) a = h a
+-- one network makes a step
+at_coherent : (w : World) (locals : ℕ → Local) (j : ℕ) (l : Local) → ((i : ℕ) → Coherent w i (locals i)) → Coherent w j l → (a : ℕ) → Coherent w a (at j l locals a)
+at_coherent w locals j l h c a = at_cases (Coherent w a) j l locals a (λ f. subst (λ y. Coherent w y l) (sym f) c) (λ _. h a)
 
-change_coherent : (w : World) {s t : State} → ((i : ℕ) → Coherent w i (s.locals i)) → Change w s t → (i : ℕ) → Coherent w i (t.locals i)
-change_coherent w h (turns s i j b hi hj ne r) a =
-    at_cases (Coherent w a) i (after_turning w i j b (s.locals i)) (at j (after_turning w j i b (s.locals j)) s.locals) a
-    (λ f. subst (λ y. Coherent w y (after_turning w i j b (s.locals i))) (sym f) (turn_coherent w i j b (s.locals i) (h i)))
-    (λ _. at_cases (Coherent w a) j (after_turning w j i b (s.locals j)) s.locals a (λ f. subst (λ y. Coherent w y (after_turning w j i b (s.locals j))) (sym f) (turn_coherent w j i b (s.locals j) (h j))) (λ _. h a))
+move_coherent : (w : World) (find : Lookup) {s t : State} → ((i : ℕ) → Coherent w i (s.locals i)) → Move w find s t → (i : ℕ) → Coherent w i (t.locals i)
+move_coherent w find h (hears s i j (update u) rest hi hj e) = at_coherent w s.locals j (after_hearing w j i u (s.locals j)) h (hear_coherent w j i u (s.locals j) (h j))
+move_coherent w find h (hears s i j (packet p) rest hi hj e) = at_coherent w s.locals j (s.locals j) h (h j)
+
+change_coherent : (w : World) (find : Lookup) {s t : State} → ((i : ℕ) → Coherent w i (s.locals i)) → Change w find s t → (i : ℕ) → Coherent w i (t.locals i)
+change_coherent w find h (turns s i j b hi hj ne r) =
+    at_coherent w (at j (after_turning w j i b (s.locals j)) s.locals) i (after_turning w i j b (s.locals i))
+    (at_coherent w s.locals j (after_turning w j i b (s.locals j)) h (turn_coherent w j i b (s.locals j) (h j))) (turn_coherent w i j b (s.locals i) (h i))
 
 send_coherent : (w : World) (find : Lookup) {s t : State} → ((i : ℕ) → Coherent w i (s.locals i)) → Send w find s t → (i : ℕ) → Coherent w i (t.locals i)
-send_coherent w find h (Run.sends s i address hi) a = h a
+send_coherent w find h (Steps.sends s i address hi known) = at_coherent w s.locals i (s.locals i) h (h i)
+
+every_coherent : (find : Lookup) (w : World) {s : State} → Reach w find s → (i : ℕ) → Coherent w i (s.locals i)
+every_coherent find w (start x) i = record { told = λ b k hb hk up. absurd (both_ways false refl up); untold = λ b k down. refl }
+every_coherent find w (move r m) i = move_coherent w find (every_coherent find w r) m i
+every_coherent find w (change r c) i = change_coherent w find (every_coherent find w r) c i
+every_coherent find w (send r c) i = send_coherent w find (every_coherent find w r) c i
 
 pub run_coherent : (w : World) (find : Lookup) {s : State} → Reach w find s → (i : ℕ) → Coherent w i (s.locals i)
-run_coherent w find start i = record { told = λ b k hb hk up. absurd (both_ways false refl up); untold = λ b k down. refl }
-run_coherent w find (move r m) i = move_coherent w find (run_coherent w find r) m i
-run_coherent w find (change r c) i = change_coherent w (run_coherent w find r) c i
-run_coherent w find (send r c) i = send_coherent w find (run_coherent w find r) c i
+run_coherent w find = every_coherent find w

@@ -3,11 +3,12 @@ use Rattle.std.proofs.Common.{◌≡◌, ℕ, Bool, true, false, cond, ◌⊎◌
 use Rattle.std.specs.List.{AllByRecursion}
 use Rattle.std.proofs.lemmas.Bool.{cases_Bool, cond_both, cond-false}
 use Rattle.std.proofs.lemmas.Bool.Decides.{nat_tests}
-use Rattle.links.specs.World.{World}
-use Rattle.links.specs.Local.{Local, at}
-use Rattle.links.specs.Hearing.{forgotten}
-use Rattle.links.specs.Run.{State, queued}
-use Rattle.links.specs.Promise.{ProperItem, ProperSaying}
+use Rattle.model.specs.World.{World}
+use Rattle.model.specs.Local.{Local, at}
+use Rattle.model.specs.Hearing.{forgotten}
+use Rattle.model.specs.Run.{State}
+use Rattle.model.specs.Steps.{queued}
+use Rattle.model.specs.Promise.{ProperItem, ProperSaying}
 use Rattle.convergence.proofs.Newest.{newest}
 use Rattle.convergence.proofs.Places.{at_cases, crosses, crosses_back, emptied}
 use Rattle.convergence.proofs.Keeping.{Tied, Kept}

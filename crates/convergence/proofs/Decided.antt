@@ -1,18 +1,18 @@
 -- What a network tells depends only on what came over channels of lower level, in any order within a rank. Assumes nothing.
-use Rattle.std.proofs.Common.{◌≡◌, ℕ, zero, suc, ◌*◌, ◌<◌, ◌≤◌, Bool, false, cond, ◌&&◌, eqb, None, sym, refl, ap, ◌∙◌, ⊎_elim, arith}
-use Rattle.std.proofs.lemmas.Bool.{cases_eq}
-use Rattle.relations.specs.Between.{opposite}
-use Rattle.relations.specs.declared.relation.Relation.{Relation}
-use Rattle.relations.specs.declared.relation.Relation.TheVariants.{Unrelated, Customer, Peer, Provider}
-use Rattle.selection.specs.Choosing.{Choice, nothing, local, via, Order, before, rank, related, heard, better, best, choose}
-use Rattle.selection.specs.Laws.{Agreed, NotBelow}
-use Rattle.selection.proofs.Chosen.{at_home, own_home}
-use Rattle.selection.proofs.Ranks.{rank_decides_lem}
-use Rattle.advertisement.specs.Telling.{may_tell, in_front, told}
-use Rattle.links.specs.World.{World, Sound}
-use Rattle.links.specs.Local.{Said}
+use Rattle.std.proofs.Common.{◌≡◌, ℕ, zero, suc, ◌*◌, ◌<◌, ◌≤◌, Bool, false, cond, ◌&&◌, None, sym, refl, ap, ◌∙◌, ⊎_elim, arith}
+use Rattle.std.proofs.lemmas.Bool.{both_ways, cases_Bool}
+use Rattle.model.specs.Relations.{opposite, related}
+use Rattle.model.specs.declared.relation.Relation.{Relation}
+use Rattle.model.specs.declared.relation.Relation.TheVariants.{Unrelated, Customer, Peer, Provider}
+use Rattle.model.specs.Selection.{Choice, nothing, local, via, Order, rank, usable, better, best, choose, Said}
+use Rattle.model.specs.SelectionLaws.{Agreed, NotBelow}
+use Rattle.model.proofs.Chosen.{at_home, own_home}
+use Rattle.model.proofs.Ranks.{rank_decides_lem}
+use Rattle.model.specs.Export.{may_tell, in_front, told}
+use Rattle.model.specs.World.{World, Sound}
 use Rattle.convergence.specs.Channels.{Lawful}
-use Rattle.convergence.specs.Levels.{Heights, LowerDecides, level_to, level, system}
+use Rattle.model.specs.Levels.{Heights, level_to, level}
+use Rattle.convergence.specs.Levels.{LowerDecides, system}
 
 -- the ranks below which a neighbour that is so related may be told
 abbrev threshold : Relation → ℕ
@@ -83,33 +83,33 @@ same_told rel me k a b na nb h =
     (λ s. none_told rel me k a na s.0 ∙ sym (none_told rel me k b nb s.1))
     h
 
-module _ (within : Order) (w : World) (sound : Sound w) (height : ℕ → ℕ) (stands : Heights w height) (b : ℕ) where
+module _ (w : World) (sound : Sound w) (height : ℕ → ℕ) (stands : Heights w height) (b : ℕ) where
   lower : (i j k : ℕ) → i < w.n → j < w.n → rank (w.rel i j) < threshold (w.rel i k) → level w height j i < level w height i k
   lower i j k hi hj l =
       lower_to w.n (height i) (height j) (w.rel i j) (w.rel i k) (w.rel j i) (sound.both i j hi hj)
       (stands.within i hi) (stands.within j hj) (stands.falls i j hi hj) (stands.falls j i hj hi) l
 
   abbrev chosen : (ℕ → Bool) → ℕ → (ℕ → Said) → Choice
-  chosen up i says = choose within (w.rel i) up i (w.home b) says w.n
+  chosen up i says = choose (w.order i) (w.rel i) up i (w.is_home b i) says w.n
 
   law : (up : ℕ → Bool) (i k : ℕ) (r q : ℕ → Said) → i < w.n → ((j : ℕ) → j < w.n → level w height j i < level w height i k → r j ≡ q j) → told (w.rel i) i k (chosen up i r) ≡ told (w.rel i) i k (chosen up i q)
   law up i k r q hi same =
       ⊎_elim
-      (λ e. ap (told (w.rel i) i k) (at_home within (w.rel i) up i (w.home b) r w.n e ∙ sym (at_home within (w.rel i) up i (w.home b) q w.n e)))
+      (λ e. ap (told (w.rel i) i k) (at_home (w.order i) (w.rel i) up i (w.is_home b i) r w.n e ∙ sym (at_home (w.order i) (w.rel i) up i (w.is_home b i) q w.n e)))
       (λ ne. same_told (w.rel i) i k (chosen up i r) (chosen up i q)
-      (λ f. ne ((own_home within (w.rel i) up i (w.home b) r w.n).0 f))
-      (λ f. ne ((own_home within (w.rel i) up i (w.home b) q w.n).0 f))
-      (rank_decides_lem within (w.rel i) (threshold (w.rel i k)) i (w.home b) w.n up up r q
-      (λ j hj l. ap (λ s. cond (related (w.rel i j) && up j) (heard i s) None) (same j hj (lower i j k hi hj l)))))
-      (cases_eq i (w.home b))
+      (λ f. both_ways (w.is_home b i) ne ((own_home (w.order i) (w.rel i) up i (w.is_home b i) r w.n).0 f))
+      (λ f. both_ways (w.is_home b i) ne ((own_home (w.order i) (w.rel i) up i (w.is_home b i) q w.n).0 f))
+      (rank_decides_lem (w.order i) (w.rel i) (sound.ranked i hi) (threshold (w.rel i k)) i (w.is_home b i) w.n up up r q
+      (λ j hj l. ap (λ s. cond (related (w.rel i j) && up j) (usable i s) None) (same j hj (lower i j k hi hj l)))))
+      (cases_Bool (w.is_home b i))
 
-  pub lawful : Lawful (system within w height b)
+  pub lawful : Lawful (system w height b)
   lawful =
       record {
         low = λ i k hi hk. below_most w.n (height i) (w.rel i k) (stands.within i hi) (λ e. let f = stands.falls i k hi hk e in omega arith);
         law = λ up i k r q hi hk same. ap (λ s. cond (up k) s None) (law up i k r q hi same);
-        all = λ up i r q hi same. ap (cond (eqb i (w.home b)) local) (same_best (before within (w.rel i)) _ _ w.n (λ j hj. ap (λ s. cond (related (w.rel i j) && up j) (heard i s) None) (same j hj)));
+        all = λ up i r q hi same. ap (cond (w.is_home b i) local) (same_best (w.order i) _ _ w.n (λ j hj. ap (λ s. cond (related (w.rel i j) && up j) (usable i s) None) (same j hj)));
       }
 
 pub lower_decides : LowerDecides
-lower_decides within w height b sound stands = lawful within w sound height stands b
+lower_decides w height b sound stands = lawful w sound height stands b

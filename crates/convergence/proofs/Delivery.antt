@@ -1,13 +1,15 @@
 -- An update that is heard in a run is not refused, and keeps what every step keeps. Assumes nothing.
 use Rattle.std.proofs.Common.{◌≡◌, ℕ, Bool, true, false, cond, eqb, List, [], ◌∷◌, None, sym, refl, ap, ◌∙◌, subst}
 use Rattle.std.specs.List.{AllByRecursion}
-use Rattle.links.specs.World.{World, Sound}
-use Rattle.links.specs.Local.{Update, Local, at, retold, sent}
-use Rattle.links.specs.Hearing.{hearing_fault, only, replaced, unless}
-use Rattle.links.specs.Run.{Item, update, State, appended, heard, queued, updates}
-use Rattle.links.specs.Promise.{ProperItem}
-use Rattle.links.specs.Laws.{HoldsProper}
-use Rattle.links.proofs.Holding.{stays_proper}
+use Rattle.model.specs.World.{World, Sound}
+use Rattle.model.specs.Local.{Update, Local, at, retold, sent}
+use Rattle.model.specs.Hearing.{hearing_fault, only, replaced, unless}
+use Rattle.model.specs.Packets.{Lookup}
+use Rattle.model.specs.Run.{Item, update, State, taken, updates}
+use Rattle.model.specs.Steps.{appended, queued}
+use Rattle.model.specs.Promise.{ProperItem}
+use Rattle.model.specs.RouterLaws.{HoldsProper}
+use Rattle.model.proofs.Holding.{stays_proper}
 use Rattle.convergence.proofs.Unrefused.{not_refused}
 use Rattle.convergence.proofs.Places.{at_other, at_same, at_twice, at_cases}
 use Rattle.convergence.proofs.Keeping.{Tied, Kept, flies_up, tied_back}
@@ -57,13 +59,13 @@ module _ (w : World) (sound : Sound w) (s : State) (h : Kept w s) (i j : ℕ) (u
       (subst (λ l. Emits w j l (retold w j (only u.block) then) (λ k. updates (sent w j (only u.block) then k))) (sym (at_same j then s.locals))
       (tells_emits w sound j (only u.block) then joined.there then_holds))
 
-  told_on_is : told_on ≡ heard w i j u rest s
-  told_on_is =
+  told_on_is : (find : Lookup) → told_on ≡ taken w find i j (update u) rest s
+  told_on_is find =
       (λ x. record { locals = λ a. at_twice j (retold w j (only u.block) then) then s.locals a x; flight = told_on.flight }) ∙
       (λ x. record {
         locals = at j (unless (sym unrefused x) (s.locals j) (retold w j (only u.block) then)) s.locals;
         flight = appended j (λ k. updates (unless (sym unrefused x) [] (sent w j (only u.block) then k))) (queued i j rest s.flight);
       })
 
-  pub hear_kept : Kept w (heard w i j u rest s)
-  hear_kept = subst (Kept w) told_on_is told_on_kept
+  pub hear_kept : (find : Lookup) → Kept w (taken w find i j (update u) rest s)
+  hear_kept find = subst (Kept w) (told_on_is find) told_on_kept

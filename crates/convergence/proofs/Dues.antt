@@ -1,8 +1,8 @@
 -- What is due when a network tells anew. Assumes nothing.
 use Rattle.std.proofs.Common.{◌≡◌, ℕ, ◌<◌, Bool, true, ◌&&◌, ltb}
 use Rattle.std.proofs.lemmas.Bool.{and_parts, ltb-true}
-use Rattle.links.specs.World.{World}
-use Rattle.links.specs.Local.{Local, due}
+use Rattle.model.specs.World.{World}
+use Rattle.model.specs.Local.{Local, due}
 
 -- a block of these, and a neighbour below n over a link that is up
 pub record Due (w : World) (these : ℕ → Bool) (l : Local) (b k : ℕ) : Type 0 where

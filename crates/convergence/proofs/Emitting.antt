@@ -2,10 +2,11 @@
 use Rattle.std.proofs.Common.{◌≡◌, ℕ, false, List, [], ◌++◌, sym, refl, ap, ◌∙◌, subst}
 use Rattle.std.specs.List.{AllByRecursion}
 use Rattle.std.proofs.ByRecursion.{All-append}
-use Rattle.links.specs.World.{World}
-use Rattle.links.specs.Local.{Local, at}
-use Rattle.links.specs.Run.{Item, State, appended}
-use Rattle.links.specs.Promise.{ProperItem, ProperSaying}
+use Rattle.model.specs.World.{World}
+use Rattle.model.specs.Local.{Local, at}
+use Rattle.model.specs.Run.{Item, State}
+use Rattle.model.specs.Steps.{appended}
+use Rattle.model.specs.Promise.{ProperItem, ProperSaying}
 use Rattle.convergence.proofs.Newest.{newest, newest_append}
 use Rattle.convergence.proofs.Places.{appended_cases, at_cases}
 use Rattle.convergence.proofs.Keeping.{Kept}

@@ -2,17 +2,17 @@
 use Rattle.std.proofs.Common.{◌≡◌, ℕ, zero, suc, ◌+◌, ◌-◌, ◌*◌, ◌^◌, ◌<◌, ◌≤◌, Bool, true, false, cond, not, ◌&&◌, ltb, List, [], sym, refl, ap, ◌∙◌, ⊎_elim, arith}
 use native.Mathlib.Nat.{one-le-pow, pow-le-pow_right, pow-succ'}
 use Rattle.std.proofs.lemmas.Bool.{and_left, and_parts, and_right, cases_Bool, cases_lt, cond_both, cond-false, eqb-true, not_from_true}
-use Rattle.selection.specs.Choosing.{shorter}
-use Rattle.advertisement.specs.Sayings.{same_saying}
-use Rattle.advertisement.proofs.Sayings.{same_saying_decides_lem}
-use Rattle.links.specs.World.{World, Sound}
-use Rattle.links.specs.Local.{Update, Local, due, sends, sent, tells_now}
-use Rattle.links.specs.Hearing.{only, replaced, unless}
-use Rattle.links.specs.Packets.{passed}
-use Rattle.links.specs.Run.{Item, update, packet, State, Move, hears, Reach, move, Ends, ends, appended, heard, carried, onward, queued, updates}
-use Rattle.links.specs.Promise.{Lookup, Stops}
-use Rattle.convergence.specs.Levels.{Heights, level}
-use Rattle.convergence.specs.Measure.{Falls, left, sum, weight}
+use Rattle.model.specs.Export.{same_saying}
+use Rattle.model.proofs.Sayings.{same_saying_decides_lem}
+use Rattle.model.specs.World.{World, Sound}
+use Rattle.model.specs.Local.{Update, Local, due, sends, sent, tells_now}
+use Rattle.model.specs.Hearing.{only, replaced, unless}
+use Rattle.model.specs.Packets.{forwarded, Lookup}
+use Rattle.model.specs.Run.{Item, update, packet, State, Move, Reach, Ends, onward, taken, updates}
+use Rattle.model.specs.Steps.{hears, move, ends, appended, queued}
+use Rattle.model.specs.PromiseLaws.{Stops}
+use Rattle.model.specs.Levels.{Heights, level}
+use Rattle.model.specs.Measure.{Falls, left, sum, weight}
 use Rattle.convergence.proofs.Standing.{height, height_stands}
 use Rattle.convergence.proofs.Decided.{lawful}
 use Rattle.convergence.proofs.Dues.{due_is}
@@ -59,7 +59,7 @@ module _ (w : World) (sound : Sound w) (height : ℕ → ℕ) (stands : Heights 
   -- at no higher level than that of what was heard, the same is told as before
   same_told : (k : ℕ) → k < w.n → level w height j k ≤ level w height i j → tells_now w j then u.block k ≡ tells_now w j l u.block k
   same_told k hk low =
-      (lawful shorter w sound height stands u.block).law l.up j k (then.received u.block) (l.received u.block) hj hk
+      (lawful w sound height stands u.block).law l.up j k (then.received u.block) (l.received u.block) hj hk
       (λ m hm lower. (replaced_takes i u l).others u.block m (λ e. let z = ap (λ y. level w height y j) e in omega (arith, z, lower, low)))
 
   not_sent : (k : ℕ) → level w height j k ≤ level w height i j → goes u.block k ≡ false
@@ -87,19 +87,19 @@ module _ (w : World) (sound : Sound w) (height : ℕ → ℕ) (stands : Heights 
   all_light : sum w.n sent_weight < weight w.n (level w height i j) (update u)
   all_light =
       let a = sum_le w.n sent_weight above (λ k _. sent_light k) in
-      let b = lighter w.n (level w height i j) ((lawful shorter w sound height stands u.block).low i j hi hj) in
+      let b = lighter w.n (level w height i j) ((lawful w sound height stands u.block).low i j hi hj) in
       omega (arith, a, b)
 
 falls_at : (w : World) (height : ℕ → ℕ) (find : Lookup) → Sound w → Heights w height → {s t : State} → Kept w s → ((i : ℕ) → Coherent w i (s.locals i)) → Move w find s t → left w height t < left w height s
 falls_at w height find sound stands h c (hears s i j (update u) rest hi hj e) =
     let more : ℕ → List Item = λ k. updates (sent w j (only u.block) (replaced i u (s.locals j)) k) in
     let none = unrefused w sound s h i j u rest e in
-    let f : (heard w i j u rest s).flight ≡ appended j more (queued i j rest s.flight) = (λ x. appended j (λ k. updates (unless (none x) [] (sent w j (only u.block) (replaced i u (s.locals j)) k))) (queued i j rest s.flight)) in
-    let a = left_then w height s i j (update u) rest hi hj e more (heard w i j u rest s) f in
+    let f : (taken w find i j (update u) rest s).flight ≡ appended j more (queued i j rest s.flight) = (λ x. appended j (λ k. updates (unless (none x) [] (sent w j (only u.block) (replaced i u (s.locals j)) k))) (queued i j rest s.flight)) in
+    let a = left_then w height s i j (update u) rest hi hj e more (taken w find i j (update u) rest s) f in
     let b = all_light w sound height stands i j hi hj u (s.locals j) (c j) in
     omega (arith, a, b)
 falls_at w height find sound stands h c (hears s i j (packet p) rest hi hj e) =
-    let a = left_then w height s i j (packet p) rest hi hj e (onward (passed w find j (s.locals j) p)) (carried w find i j p rest s) refl in
+    let a = left_then w height s i j (packet p) rest hi hj e (onward (forwarded w find j (s.locals j) p)) (taken w find i j (packet p) rest s) refl in
     let b = onward_weighs w find j (s.locals j) p (λ k. level w height j k) in
     omega (arith, a, b)
 

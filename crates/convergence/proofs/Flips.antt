@@ -1,11 +1,13 @@
 -- A link that turns keeps what every step keeps. Assumes nothing.
 use Rattle.std.proofs.Common.{◌≡◌, ℕ, Bool, [], sym, ◌∙◌, subst}
-use Rattle.links.specs.World.{World, Sound}
-use Rattle.links.specs.Local.{Local, at, retold, sent}
-use Rattle.links.specs.Hearing.{every, forgotten, unless}
-use Rattle.links.specs.Run.{State, appended, queued, turned, updates}
-use Rattle.links.specs.Laws.{HoldsProper}
-use Rattle.links.proofs.Turning.{no_turning_fault}
+use Rattle.model.specs.World.{World, Sound}
+use Rattle.model.specs.Local.{Local, at, retold, sent}
+use Rattle.model.specs.Hearing.{every, forgotten, unless}
+use Rattle.model.specs.Packets.{Lookup}
+use Rattle.model.specs.Run.{State, turned, updates}
+use Rattle.model.specs.Steps.{appended, queued}
+use Rattle.model.specs.RouterLaws.{HoldsProper}
+use Rattle.model.proofs.Faults.{no_turning_fault}
 use Rattle.convergence.proofs.Places.{at_other, at_same, at_swap}
 use Rattle.convergence.proofs.Keeping.{Tied, Kept, tied_back}
 use Rattle.convergence.proofs.Emitting.{Emits, emitted, emit_kept}
@@ -46,8 +48,8 @@ module _ (w : World) (sound : Sound w) (s : State) (h : Kept w s) (i j : ℕ) (b
       (subst (λ l. Emits w j l (retold w j every lj) (λ k. updates (sent w j every lj k))) (sym at_j)
       (tells_emits w sound j every lj there.there (subst (HoldsProper w j) at_j (once_kept.held j))))
 
-  twice_is : twice ≡ turned w i j b s
-  twice_is =
+  twice_is : (find : Lookup) → twice ≡ turned w find i j b s
+  twice_is find =
       let fi = no_turning_fault w i j there.there there.related in
       let fj = no_turning_fault w j i there.here (tied_back w sound i j there).related in
       (λ x. record { locals = λ a. at_swap i j there.apart (retold w i every li) li (retold w j every lj) lj s.locals a x; flight = twice.flight }) ∙
@@ -56,5 +58,5 @@ module _ (w : World) (sound : Sound w) (s : State) (h : Kept w s) (i j : ℕ) (b
         flight = appended j (λ k. updates (unless (sym fj x) [] (sent w j every lj k))) (appended i (λ k. updates (unless (sym fi x) [] (sent w i every li k))) (queued i j [] (queued j i [] s.flight)));
       })
 
-  pub turn_kept : Kept w (turned w i j b s)
-  turn_kept = subst (Kept w) twice_is twice_kept
+  pub turn_kept : (find : Lookup) → Kept w (turned w find i j b s)
+  turn_kept find = subst (Kept w) (twice_is find) twice_kept

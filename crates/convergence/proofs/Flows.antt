@@ -2,8 +2,9 @@
 use Rattle.std.proofs.Common.{◌≡◌, ℕ, ◌+◌, ◌<◌, cond, ◌&&◌, eqb, List, ◌∷◌, sum_by, ap, ◌∙◌, arith}
 use Rattle.std.proofs.lemmas.Bool.{cond-true, cond-false, eq-eqb, ne_eqb}
 use Rattle.std.proofs.lemmas.List.Sums.{sum_by-append, sum_by-cons}
-use Rattle.links.specs.Run.{Item, appended, queued}
-use Rattle.convergence.specs.Measure.{sum}
+use Rattle.model.specs.Run.{Item}
+use Rattle.model.specs.Steps.{appended, queued}
+use Rattle.model.specs.Measure.{sum}
 use Rattle.convergence.proofs.Places.{appended_cases, at_place, off_place, queued_cases}
 use Rattle.convergence.proofs.Sums.{sum_none, sum_place, sum_row, sum_same, sum_table}
 

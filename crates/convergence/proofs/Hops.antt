@@ -1,29 +1,30 @@
 -- A packet that is handed on goes over a link that is up and has one hop less, so it weighs less than it did. Assumes nothing.
 use Rattle.std.proofs.Common.{◌≡◌, ℕ, zero, suc, ◌<◌, ◌≤◌, true, cond, eqb, [], ◌∷◌, Some, None, sum_by, Option, sym, refl, ap, ◌∙◌, subst, ⊎_elim, arith}
 use Rattle.std.proofs.lemmas.Bool.{cases_eq, cond_both, cond-true, cond-false, eq-eqb, ne_eqb}
-use Rattle.selection.specs.Choosing.{Choice, nothing, local, via}
-use Rattle.links.specs.World.{World}
-use Rattle.links.specs.Local.{Local, choice}
-use Rattle.links.specs.Packets.{Packet, Passed, Why, no_block, no_route, no_hops, arrived, handed, passed, by_choice, hand, of_block, dropped}
-use Rattle.links.specs.Run.{Item, packet, onward}
-use Rattle.links.specs.Promise.{Lookup}
-use Rattle.convergence.specs.Measure.{sum, weight}
+use Rattle.model.specs.Selection.{Choice, nothing, local, via}
+use Rattle.model.specs.World.{World}
+use Rattle.model.specs.Local.{Local, choice}
+use Rattle.model.specs.Packets.{Packet, Forwarded, arrived, handed, forwarded, by_choice, hand, of_block, dropped, Lookup}
+use Rattle.model.specs.declared.drop_reason.DropReason.{DropReason}
+use Rattle.model.specs.declared.drop_reason.DropReason.TheVariants.{NoBlock, NoRoute, NoHops}
+use Rattle.model.specs.Run.{Item, packet, onward}
+use Rattle.model.specs.Measure.{sum, weight}
 use Rattle.convergence.proofs.Goodness.{chosen_is}
 use Rattle.convergence.proofs.Sums.{sum_at, sum_none, sum_same}
 
 module _ (w : World) (l : Local) (p : Packet) where
   -- what hands nothing on, or hands the packet on with one hop less
-  abbrev Less : Passed → Type 0
+  abbrev Less : Forwarded → Type 0
   Less o = (k : ℕ) (q : Packet) → o ≡ handed k q → (k < w.n) × (l.up k ≡ true) × (q.address ≡ p.address) × (suc q.hops ≡ p.hops)
 
-  stays : (o : Passed) → o ≡ arrived → Less o
+  stays : (o : Forwarded) → o ≡ arrived → Less o
   stays o a k q e = absurd (let z : ◌≡◌ {A = ℕ} 0 1 = cc in omega arith)
 
-  falls : (o : Passed) (why : Why) → o ≡ dropped why → Less o
+  falls : (o : Forwarded) (why : DropReason) → o ≡ dropped why → Less o
   falls o why d k q e = absurd (let z : ◌≡◌ {A = ℕ} 0 1 = cc in omega arith)
 
   less_by_hops : (j : ℕ) → j < w.n → l.up j ≡ true → (hops : ℕ) → hops ≡ p.hops → Less (hand p.address j hops)
-  less_by_hops j there up zero f k q e = falls (dropped no_hops) no_hops refl k q e
+  less_by_hops j there up zero f k q e = falls (dropped NoHops) NoHops refl k q e
   less_by_hops j there up (suc hops) f k q e =
       let r : Packet = record { address = p.address; hops = hops } in
       let same : q ≡ r = cc in
@@ -31,15 +32,15 @@ module _ (w : World) (l : Local) (p : Packet) where
       (subst (λ y. y < w.n) (sym to) there, ap l.up to ∙ up, ap (λ y. y.address) same, ap (λ y. suc y.hops) same ∙ f)
 
   less_by_choice : (i b : ℕ) (c : Choice) → choice w i l b ≡ c → Less (by_choice p c)
-  less_by_choice i b nothing e = falls (dropped no_route) no_route refl
+  less_by_choice i b nothing e = falls (dropped NoRoute) NoRoute refl
   less_by_choice i b local e = stays arrived refl
   less_by_choice i b (via j path) e = let c = chosen_is w i l b j path e in less_by_hops j c.there c.up p.hops refl
 
   less_in_block : (i : ℕ) (o : Option ℕ) → Less (of_block w i l p o)
-  less_in_block i None = falls (dropped no_block) no_block refl
-  less_in_block i (Some b) = cond_both (eqb i (w.home b)) arrived (by_choice p (choice w i l b)) Less (λ _. stays arrived refl) (λ _. less_by_choice i b (choice w i l b) refl)
+  less_in_block i None = falls (dropped NoBlock) NoBlock refl
+  less_in_block i (Some b) = cond_both (w.is_home b i) arrived (by_choice p (choice w i l b)) Less (λ _. stays arrived refl) (λ _. less_by_choice i b (choice w i l b) refl)
 
-pub handed_on : (w : World) (find : Lookup) (i : ℕ) (l : Local) (p : Packet) (k : ℕ) (q : Packet) → passed w find i l p ≡ handed k q → (k < w.n) × (l.up k ≡ true) × (q.address ≡ p.address) × (suc q.hops ≡ p.hops)
+pub handed_on : (w : World) (find : Lookup) (i : ℕ) (l : Local) (p : Packet) (k : ℕ) (q : Packet) → forwarded w find i l p ≡ handed k q → (k < w.n) × (l.up k ≡ true) × (q.address ≡ p.address) × (suc q.hops ≡ p.hops)
 handed_on w find i l p = less_in_block w l p i (find p.address)
 
 -- what goes on to one network, weighed by where it goes
@@ -55,10 +56,10 @@ onward_one n heavy j q h = sum_same n _ _ (λ k _. one k) ∙ sum_at n j (heavy 
         (cases_eq k j)
 
 -- what goes on of a packet, over channels of any levels
-pub onward_weighs : (w : World) (find : Lookup) (i : ℕ) (l : Local) (p : Packet) (lev : ℕ → ℕ) → sum w.n (λ k. sum_by (weight w.n (lev k)) (onward (passed w find i l p) k)) ≤ p.hops
-onward_weighs w find i l p lev = light (passed w find i l p) refl
+pub onward_weighs : (w : World) (find : Lookup) (i : ℕ) (l : Local) (p : Packet) (lev : ℕ → ℕ) → sum w.n (λ k. sum_by (weight w.n (lev k)) (onward (forwarded w find i l p) k)) ≤ p.hops
+onward_weighs w find i l p lev = light (forwarded w find i l p) refl
   where
-    light : (o : Passed) → passed w find i l p ≡ o → sum w.n (λ k. sum_by (weight w.n (lev k)) (onward o k)) ≤ p.hops
+    light : (o : Forwarded) → forwarded w find i l p ≡ o → sum w.n (λ k. sum_by (weight w.n (lev k)) (onward o k)) ≤ p.hops
     light arrived e = omega (arith, sum_none w.n)
     light (dropped why) e = omega (arith, sum_none w.n)
     light (handed j q) e =

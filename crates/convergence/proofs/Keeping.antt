@@ -3,14 +3,13 @@
 use Rattle.std.proofs.Common.{◌≡◌, ℕ, ◌<◌, true, false, List, [], ◌∷◌, sym, refl, subst, ⊎_elim, arith}
 use Rattle.std.specs.List.{AllByRecursion}
 use Rattle.std.proofs.lemmas.Bool.{cases_Bool}
-use Rattle.selection.specs.Choosing.{related}
-use Rattle.relations.specs.Between.{opposite}
-use Rattle.relations.specs.declared.relation.Relation.{Relation}
-use Rattle.relations.specs.declared.relation.Relation.TheVariants.{Unrelated, Customer, Peer, Provider}
-use Rattle.links.specs.World.{World, Sound}
-use Rattle.links.specs.Run.{Item, State}
-use Rattle.links.specs.Promise.{ProperItem}
-use Rattle.links.specs.Laws.{HoldsProper}
+use Rattle.model.specs.Relations.{related, opposite}
+use Rattle.model.specs.declared.relation.Relation.{Relation}
+use Rattle.model.specs.declared.relation.Relation.TheVariants.{Unrelated, Customer, Peer, Provider}
+use Rattle.model.specs.World.{World, Sound}
+use Rattle.model.specs.Run.{Item, State}
+use Rattle.model.specs.Promise.{ProperItem}
+use Rattle.model.specs.RouterLaws.{HoldsProper}
 use Rattle.convergence.proofs.Newest.{newest}
 
 -- two different networks below n that are related

@@ -4,13 +4,15 @@ use Rattle.std.specs.List.{AllByRecursion}
 use Rattle.std.proofs.lemmas.List.{map-append}
 use Rattle.std.proofs.lemmas.Bool.{cases_eq, cond_both, cond-false, eqb-true, and_left, and_right}
 use Rattle.std.proofs.lemmas.Bool.Decides.{nat_tests}
-use Rattle.relations.proofs.Gathered.{gather_none}
-use Rattle.advertisement.specs.Sayings.{same_saying}
-use Rattle.advertisement.proofs.Sayings.{same_saying_decides_lem}
-use Rattle.links.specs.World.{World}
-use Rattle.links.specs.Local.{Said, Update, Local, due, gather, retold, sends, sent, tells_now}
-use Rattle.links.specs.Run.{Item, update, packet, NoUpdate, updates}
-use Rattle.links.specs.Promise.{ProperItem, ProperSaying}
+use Rattle.model.proofs.Gathered.{gather_none}
+use Rattle.model.specs.Export.{same_saying}
+use Rattle.model.proofs.Sayings.{same_saying_decides_lem}
+use Rattle.model.specs.World.{World}
+use Rattle.model.specs.Selection.{Said}
+use Rattle.model.specs.Local.{Update, Local, due, retold, sends, sent, tells_now}
+use Rattle.model.specs.Lists.{gather}
+use Rattle.model.specs.Run.{Item, update, packet, NoUpdate, updates}
+use Rattle.model.specs.Promise.{ProperItem, ProperSaying}
 
 -- of block b, where `d` was received before
 abbrev pub newest : ℕ → List Item → Said → Said

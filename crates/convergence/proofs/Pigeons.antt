@@ -2,9 +2,8 @@
 use Rattle.std.proofs.Common.{◌≡◌, ℕ, ◌+◌, ◌≤◌, Bool, true, false, cond, ◌||◌, eqb, ltb, List, [], ◌∷◌, length, ap, ◌∙◌, ⊎_elim, arith}
 use Rattle.std.proofs.lemmas.Bool.{and_parts, cases_eq, cond_both, ltb-true, or_parts}
 use Rattle.std.proofs.lemmas.Bool.Decides.{nat_tests}
-use Rattle.selection.specs.Choosing.{passes}
-use Rattle.links.specs.Paths.{below, repeats}
-use Rattle.convergence.specs.Measure.{sum}
+use Rattle.model.specs.Paths.{passes, below, repeats}
+use Rattle.model.specs.Measure.{sum}
 use Rattle.convergence.proofs.Sums.{sum_add, sum_at, sum_le, sum_none, sum_same}
 
 abbrev one : Bool → ℕ

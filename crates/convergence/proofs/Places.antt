@@ -2,8 +2,9 @@
 use Rattle.std.proofs.Common.{◌≡◌, ℕ, Bool, true, false, cond, ◌&&◌, ◌||◌, eqb, List, [], ◌++◌, sym, refl, ap, ◌∙◌, subst, ⊎_elim, arith}
 use Rattle.std.proofs.lemmas.Bool.{and_from, and_parts, cases_Bool, cond_both, cond-true, cond-false, eq-eqb, ne_eqb, eqb-true, eqb-false}
 use Rattle.std.proofs.lemmas.Bool.Decides.{nat_tests}
-use Rattle.links.specs.Local.{at}
-use Rattle.links.specs.Run.{Item, appended, queued}
+use Rattle.model.specs.Local.{at}
+use Rattle.model.specs.Run.{Item}
+use Rattle.model.specs.Steps.{appended, queued}
 
 pub at_cases : {X : Type 0} (P : X → Type 0) (i : ℕ) (x : X) (f : ℕ → X) (a : ℕ) → (a ≡ i → P x) → ((a ≡ i → ⊥) → P (f a)) → P (at i x f a)
 at_cases P i x f a here there = cond_both (eqb a i) x (f a) P (λ e. here (eqb-true a i e)) (λ e. there (eqb-false a i e))

@@ -1,5 +1,5 @@
 -- The promise of the whole, from its parts. Assumes nothing.
-use Rattle.links.specs.Promise.{Main}
+use Rattle.model.specs.Promise.{Main}
 use Rattle.convergence.proofs.Runs.{always_proper, none_refused}
 use Rattle.convergence.proofs.Falling.{stops}
 use Rattle.convergence.proofs.Quiescence.{settles}

@@ -1,13 +1,14 @@
 -- When no update is in flight every network goes by the stable routing, whatever the past was. Assumes nothing.
 use Rattle.std.proofs.Common.{◌≡◌, ℕ, ◌<◌, None, sym, ap, ◌∙◌, ⊎_elim}
 use Rattle.std.proofs.lemmas.Bool.{cases_Bool, cond-false}
-use Rattle.selection.specs.Choosing.{shorter}
-use Rattle.advertisement.specs.Telling.{told, tells}
-use Rattle.links.specs.World.{World, Sound}
-use Rattle.links.specs.Local.{choice}
-use Rattle.links.specs.Stable.{Routing, stable, Stable}
-use Rattle.links.specs.Run.{State, links, Reach, Quiescent}
-use Rattle.links.specs.Promise.{Lookup, Forgets, Settled, Settles}
+use Rattle.model.specs.Export.{told, tells}
+use Rattle.model.specs.World.{World, Sound}
+use Rattle.model.specs.Local.{choice}
+use Rattle.model.specs.Stable.{Routing, stable, Stable}
+use Rattle.model.specs.Run.{State, links, Reach, Quiescent}
+use Rattle.model.specs.Packets.{Lookup}
+use Rattle.model.specs.Promise.{Settled}
+use Rattle.model.specs.PromiseLaws.{Forgets, Settles}
 use Rattle.convergence.proofs.Standing.{height, height_stands}
 use Rattle.convergence.proofs.Decided.{lawful}
 use Rattle.convergence.proofs.Routings.{exists, only_one}
@@ -33,7 +34,7 @@ module _ (w : World) (find : Lookup) (sound : Sound w) (s : State) (run : Reach 
 
   gone_by_stable : (b : ℕ) → b < w.blocks → Stable w (links s) b (gone_by b)
   gone_by_stable b hb i hi =
-      (lawful shorter w sound (height w sound) (height_stands w sound) b).all (links s i) i ((s.locals i).received b) (λ j. tells (w.rel j) (links s j) j i (gone_by b j)) hi
+      (lawful w sound (height w sound) (height_stands w sound) b).all (links s i) i ((s.locals i).received b) (λ j. tells (w.rel j) (links s j) j i (gone_by b j)) hi
       (λ j hj. received_is_advertised i j b ∙ advertised_is_told j i b hi hb)
 
   chosen_is_stable : (i b : ℕ) → i < w.n → b < w.blocks → gone_by b i ≡ stable w (links s) b i

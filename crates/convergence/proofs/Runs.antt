@@ -1,7 +1,8 @@
 -- In every run paths are proper, and no update is refused. Assumes nothing.
 use Rattle.std.proofs.Common.{subst}
-use Rattle.links.specs.Run.{hears}
-use Rattle.links.specs.Promise.{AlwaysProper, NoneRefused, ProperSaying}
+use Rattle.model.specs.Steps.{hears}
+use Rattle.model.specs.Promise.{ProperSaying}
+use Rattle.model.specs.PromiseLaws.{AlwaysProper, NoneRefused}
 use Rattle.convergence.proofs.Newest.{newest_proper}
 use Rattle.convergence.proofs.Goodness.{choice_proper}
 use Rattle.convergence.proofs.Keeping.{Kept, flies_up}

@@ -3,14 +3,14 @@ use Rattle.std.proofs.Common.{◌≡◌, ℕ, ◌<◌, cond, not, ◌&&◌, eqb,
 use Rattle.std.specs.List.{AllByRecursion}
 use Rattle.std.proofs.lemmas.Bool.{cases_eq}
 use Rattle.std.proofs.lemmas.Bool.Decides.{nat_tests}
-use Rattle.relations.specs.Between.{Between, opposite, Mutual, Apart, Within}
-use Rattle.relations.specs.Cycle.{Chain, NoCycle}
-use Rattle.relations.specs.Heights.{Height}
-use Rattle.relations.specs.declared.relation.Relation.{Relation}
-use Rattle.relations.specs.declared.relation.Relation.TheVariants.{Unrelated, Customer, Provider}
-use Rattle.relations.proofs.Reach.{heights}
-use Rattle.links.specs.World.{World, Sound}
-use Rattle.convergence.specs.Levels.{Heights, HeightsExist}
+use Rattle.model.specs.Relations.{Between, opposite, Mutual, Apart, Within}
+use Rattle.model.specs.Cycles.{Chain, NoCycle}
+use Rattle.model.specs.Heights.{Height}
+use Rattle.model.specs.declared.relation.Relation.{Relation}
+use Rattle.model.specs.declared.relation.Relation.TheVariants.{Unrelated, Customer, Provider}
+use Rattle.model.proofs.Reach.{heights}
+use Rattle.model.specs.World.{World, Sound}
+use Rattle.model.specs.Levels.{Heights, HeightsExist}
 
 module _ (w : World) (sound : Sound w) where
   -- the ties between two different networks below n

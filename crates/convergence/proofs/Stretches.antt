@@ -2,7 +2,7 @@
 use Rattle.std.proofs.Common.{◌≡◌, ℕ, suc, ◌+◌, ◌<◌, Bool, List, [], ◌∷◌, length, sym, ap, ◌∙◌, subst, ⊎_elim, arith}
 use Rattle.std.specs.List.{AllByRecursion}
 use Rattle.std.proofs.lemmas.Bool.{cond_both, cond-true}
-use Rattle.links.specs.Stable.{Looks}
+use Rattle.model.specs.PromiseLaws.{Looks}
 use Rattle.convergence.specs.Channels.{System, Lawful, channel, next, looked, after_looks, after_stretches}
 
 -- what each look keeps, and what a look gives a network that stays with it, a stretch gives every network that looks in it

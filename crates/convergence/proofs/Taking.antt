@@ -2,11 +2,13 @@
 use Rattle.std.proofs.Common.{◌≡◌, ℕ, List, [], ◌∷◌, sym, refl, ap, ◌∙◌, subst}
 use Rattle.std.specs.List.{AllByRecursion}
 use Rattle.std.proofs.lemmas.Bool.{both_ways}
-use Rattle.links.specs.World.{World}
-use Rattle.links.specs.Local.{Said, Local, at}
-use Rattle.links.specs.Run.{Item, update, packet, State, queued}
-use Rattle.links.specs.Promise.{ProperItem}
-use Rattle.links.specs.Laws.{HoldsProper}
+use Rattle.model.specs.World.{World}
+use Rattle.model.specs.Selection.{Said}
+use Rattle.model.specs.Local.{Local, at}
+use Rattle.model.specs.Run.{Item, update, packet, State}
+use Rattle.model.specs.Steps.{queued}
+use Rattle.model.specs.Promise.{ProperItem}
+use Rattle.model.specs.RouterLaws.{HoldsProper}
 use Rattle.convergence.proofs.Newest.{newest}
 use Rattle.convergence.proofs.Places.{at_cases, at_same, queued_cases}
 use Rattle.convergence.proofs.Keeping.{Kept, flies_up}

@@ -4,11 +4,14 @@ use Rattle.std.proofs.lemmas.List.{map-append}
 use Rattle.std.proofs.lemmas.List.Sums.{sum_by-append}
 use Rattle.std.proofs.lemmas.Bool.{cases_Bool, cases_eq}
 use Rattle.std.proofs.lemmas.Bool.Decides.{nat_tests}
-use Rattle.links.specs.World.{World}
-use Rattle.links.specs.Local.{Said, Update, gather}
-use Rattle.links.specs.Run.{Item, update, State, appended, queued, updates}
-use Rattle.convergence.specs.Levels.{level}
-use Rattle.convergence.specs.Measure.{left, sum, weight}
+use Rattle.model.specs.World.{World}
+use Rattle.model.specs.Selection.{Said}
+use Rattle.model.specs.Local.{Update}
+use Rattle.model.specs.Lists.{gather}
+use Rattle.model.specs.Run.{Item, update, State, updates}
+use Rattle.model.specs.Steps.{appended, queued}
+use Rattle.model.specs.Levels.{level}
+use Rattle.model.specs.Measure.{left, sum, weight}
 use Rattle.convergence.proofs.Flows.{flow, flow_appended, flow_queued}
 
 abbrev pub weigh : World → (ℕ → ℕ) → ℕ → ℕ → List Item → ℕ

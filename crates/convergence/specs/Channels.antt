@@ -1,9 +1,9 @@
--- Networks that select from what they are told and tell it on, over channels with levels, and the one law that makes the
--- telling settle: what goes over a channel depends only on what came over channels of lower level. Assumes nothing.
+-- Networks that select from what they are told and tell it on, over channels with levels, and the one law that makes
+-- the telling settle: what goes over a channel depends only on what came over channels of lower level. Assumes nothing.
 use Rattle.std.specs.Prelude.{◌≡◌, ℕ, ◌<◌, Bool, cond, List, [], ◌∷◌}
 
--- n networks that say things of S and go by things of C: what network i selects, from which of its links are up and what each
--- neighbour said, and what it then tells neighbour k; `level i k` is the level of the channel from i to k
+-- n networks that say things of S and go by things of C: what network i selects, from which of its links are up and
+-- what each neighbour said, and what it then tells neighbour k; `level i k` is the level of the channel from i to k
 pub record System (S C : Type 0) : Type 0 where
   pub n : ℕ
   pub most : ℕ
@@ -11,12 +11,15 @@ pub record System (S C : Type 0) : Type 0 where
   pub select : (ℕ → Bool) → ℕ → (ℕ → S) → C
   pub tell : (ℕ → Bool) → ℕ → ℕ → C → S
 
--- all levels are below `most`; what is told depends only on what came over channels of lower level, and what is selected only
--- on what came from networks below n
+-- all levels are below `most`; what is told depends only on what came over channels of lower level, and what is
+-- selected only on what came from networks below n
 pub record Lawful {S C : Type 0} (y : System S C) : Type 0 where
   pub low : (i k : ℕ) → i < y.n → k < y.n → y.level i k < y.most
-  pub law : (up : ℕ → Bool) (i k : ℕ) (r q : ℕ → S) → i < y.n → k < y.n → ((j : ℕ) → j < y.n → y.level j i < y.level i k → r j ≡ q j) → y.tell up i k (y.select up i r) ≡ y.tell up i k (y.select up i q)
-  pub all : (up : ℕ → Bool) (i : ℕ) (r q : ℕ → S) → i < y.n → ((j : ℕ) → j < y.n → r j ≡ q j) → y.select up i r ≡ y.select up i q
+  pub law : (up : ℕ → Bool) (i k : ℕ) (r q : ℕ → S) → i < y.n → k < y.n →
+      ((j : ℕ) → j < y.n → y.level j i < y.level i k → r j ≡ q j) →
+      y.tell up i k (y.select up i r) ≡ y.tell up i k (y.select up i q)
+  pub all : (up : ℕ → Bool) (i : ℕ) (r q : ℕ → S) → i < y.n → ((j : ℕ) → j < y.n → r j ≡ q j) →
+      y.select up i r ≡ y.select up i q
 
 -- what goes over the channel from i to k, if each network goes by what `a` has for it
 abbrev pub channel : {S C : Type 0} → System S C → (ℕ → ℕ → Bool) → (ℕ → C) → ℕ → ℕ → S

@@ -1,4 +1,4 @@
-// That the telling ends at the one stable routing: the theorems on every run.
+//! That the telling ends at the one stable routing: the theorems on every run.
 #![tactic(auto)]
 
 mod laws;

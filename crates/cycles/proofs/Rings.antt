@@ -4,12 +4,12 @@ use Rattle.std.specs.List.{AllByRecursion}
 use Rattle.std.proofs.lemmas.List.{append-nil}
 use Rattle.std.proofs.ByRecursion.{All-append}
 use Rattle.std.proofs.lemmas.Bool.{cases_lt}
-use Rattle.relations.specs.Between.{Between, Within}
-use Rattle.relations.specs.Cycle.{Chain, Cycle, NoCycle, FromLowest, Smaller, Earlier, First}
+use Rattle.model.specs.Relations.{Between, Within}
+use Rattle.model.specs.Cycles.{Chain, Cycle, NoCycle, FromLowest, Smaller, Earlier, First}
 use Rattle.cycles.specs.Walk.{Climb, Fewest, Shortest}
 use Rattle.cycles.specs.Trace.{Least, Next, Traced}
-use Rattle.relations.specs.declared.relation.Relation.TheVariants.{Provider}
-use Rattle.relations.proofs.Chains.{among, chain_join}
+use Rattle.model.specs.declared.relation.Relation.TheVariants.{Provider}
+use Rattle.model.proofs.Chains.{among, chain_join}
 
 -- a list to which x was added, and then more
 pub added_way : (old mid new way : List ℕ) (x : ℕ) → mid ≡ old ++ x ∷ [] → new ≡ mid ++ way → new ≡ old ++ x ∷ way

@@ -6,10 +6,10 @@ use Rattle.std.proofs.ByRecursion.{All-push}
 use Rattle.std.proofs.lemmas.List.Sums.{sum_by-set}
 use Rattle.std.proofs.lemmas.Bool.{cases_eq, cases_lt}
 use Rattle.std.proofs.lemmas.Bool.Decides.{nat_tests}
-use Rattle.relations.specs.Between.{Between, Mutual, Within, opposite}
-use Rattle.relations.specs.Cycle.{Chain}
+use Rattle.model.specs.Relations.{Between, Mutual, Within, opposite}
+use Rattle.model.specs.Cycles.{Chain}
 use Rattle.cycles.specs.Walk.{Climb, Fewest, Known, Shortest, Spread, Walked, noted}
-use Rattle.relations.specs.declared.relation.Relation.TheVariants.{Customer, Provider}
+use Rattle.model.specs.declared.relation.Relation.TheVariants.{Customer, Provider}
 
 -- a provider stands in the table
 pub in_table : (rel : Between) (n i j : ℕ) → Mutual rel → Within n rel → n ≤ 64 → rel i j ≡ Provider → j < 64

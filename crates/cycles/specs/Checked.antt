@@ -1,6 +1,6 @@
 -- What the check of a table tells. Assumes nothing.
 use Rattle.std.specs.Prelude.{◌≡◌, Ok, Err, vec_items, Result}
-use Rattle.relations.specs.Cycle.{First}
+use Rattle.model.specs.Cycles.{First}
 use Rattle.relations.specs.Table.{rel}
 use Rattle.relations.specs.declared.matrix.Matrix.{Matrix}
 use Rattle.relations.specs.declared.sound.Relations.{Relations}

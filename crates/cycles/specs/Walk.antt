@@ -1,9 +1,9 @@
 -- Walks up from a network, from customer to provider, and what a search by levels has met. Assumes nothing.
 use Rattle.std.specs.Prelude.{◌≡◌, ℕ, zero, suc, ◌+◌, ◌<◌, ◌≤◌, Bool, false, cond, Option, None, Some, List, length, count_by, nat_eq, slice_index}
 use Rattle.std.specs.List.{AllByRecursion}
-use Rattle.relations.specs.Between.{Between}
-use Rattle.relations.specs.Cycle.{Chain}
-use Rattle.relations.specs.declared.relation.Relation.TheVariants.{Provider}
+use Rattle.model.specs.Relations.{Between}
+use Rattle.model.specs.Cycles.{Chain}
+use Rattle.model.specs.declared.relation.Relation.TheVariants.{Provider}
 
 -- a walk of k steps up from one network to another, on which each network after the first is `low` or above
 pub record Climb (rel : Between) (low k from to : ℕ) : Type 0 where
@@ -28,16 +28,21 @@ abbrev pub unseen : List ℕ → ℕ
 unseen steps = count_by (λ k. nat_eq k 0) steps
 
 -- `step` is written for each network not yet seen that is a provider of a source; v is a source for w where Source v w
-pub record Spread (rel : Between) (low step : ℕ) (Source : ℕ → ℕ → Type 0) (before after : List ℕ) (met : Bool) : Type 0 where
+pub record Spread
+    (rel : Between) (low step : ℕ) (Source : ℕ → ℕ → Type 0) (before after : List ℕ) (met : Bool) : Type 0 where
   pub kept : (w : ℕ) → 0 < slice_index before w → slice_index after w ≡ slice_index before w
-  pub added : (w : ℕ) → slice_index before w ≡ 0 → 0 < slice_index after w → (v : ℕ) × (slice_index after w ≡ step) × (low ≤ w) × Source v w × (rel v w ≡ Provider)
+  pub added :
+      (w : ℕ) → slice_index before w ≡ 0 → 0 < slice_index after w → (v : ℕ) × (slice_index after w ≡ step) ×
+      (low ≤ w) × Source v w × (rel v w ≡ Provider)
   pub all : (v w : ℕ) → Source v w → low ≤ w → rel v w ≡ Provider → 0 < slice_index after w
   pub fewer : unseen after + cond met 1 0 ≤ unseen before
   pub same : met ≡ false → after ≡ before
 
 -- each network that at most `level` steps lead to is seen, with the least number of steps
 pub record Known (rel : Between) (low level start : ℕ) (steps : List ℕ) : Type 0 where
-  pub real : (w : ℕ) → 0 < slice_index steps w → Climb rel low (slice_index steps w) start w × (slice_index steps w ≤ level)
+  pub real :
+      (w : ℕ) → 0 < slice_index steps w → Climb rel low (slice_index steps w) start w ×
+      (slice_index steps w ≤ level)
   pub least : (m w : ℕ) → m ≤ level → Climb rel low m start w → (0 < slice_index steps w) × (slice_index steps w ≤ m)
 
 -- a number of steps as it is noted: 0 stands for none

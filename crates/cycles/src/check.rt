@@ -7,8 +7,8 @@ use crate::search::first_cycle;
 use relations::{Matrix, Relations};
 use std::alloc::{AllocError, Global};
 
-// Why a table is not taken: a cycle of customers, each a customer of the next and the last of the first, or there is
-// too little memory to tell.
+/// Why a table is not taken: a cycle of customers, each a customer of the next and the last of the first, or there is
+/// too little memory to tell.
 #[derive(Debug, Drop)]
 pub enum Unsound {
     Cycle(Vec<u8>),
@@ -23,7 +23,8 @@ impl From<AllocError> for Unsound {
     }
 }
 
-// The relations of a table, if no network is its own customer over others; else the first such cycle.
+/// The relations of a table, if no network is its own customer over others; else the first such cycle. It is the cycle that
+/// `first_cycle` answers.
 pub fn sound(matrix: Matrix, heap: Global) -> Result<Relations, Unsound>
     ensures { Checked matrix result }
 {

@@ -1,4 +1,4 @@
-// Cycles of customers: the search for the first of them, and sound relations where there is none.
+//! Cycles of customers: the search for the first of them, and sound relations where there is none.
 #![tactic(auto)]
 
 mod check;

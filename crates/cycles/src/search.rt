@@ -1,6 +1,6 @@
 // The search for the first cycle of customers.
 ghost use Rattle.std.specs.Prelude.{[], ◌∷◌, ◌+◌, ◌<◌, IfOk, MatchOption};
-ghost use Rattle.relations.specs.Cycle.{First, NoCycle};
+ghost use Rattle.model.specs.Cycles.{First, NoCycle};
 ghost use Rattle.relations.specs.Table.{rel};
 ghost use Rattle.cycles.specs.Trace.{Next, Traced};
 ghost use Rattle.cycles.specs.Walk.{Shortest};
@@ -24,7 +24,9 @@ impl Slope<'_> {
     // The networks by which `steps` steps lead from `low` up to itself, `low` before them.
     fn ring(self, steps: u8, heap: Global) -> Result<Vec<u8>, AllocError>
         requires { Shortest (rel self.matrix.now) self.low steps self.low self.low }
-        ensures { IfOk result (λ ring. Traced (rel self.entry.matrix.now) self.entry.low self.entry.low steps (self.entry.low ∷ []) ring.items) }
+        ensures { IfOk result (λ ring.
+            Traced (rel self.entry.matrix.now) self.entry.low self.entry.low steps
+            (self.entry.low ∷ []) ring.items) }
     {
         let mut at = self.low;
         let mut ring = Vec::new(heap);
@@ -37,9 +39,10 @@ impl Slope<'_> {
     }
 }
 
-// The cycle of customers that is told, written from its lowest member; none if there is no cycle.
+/// The cycle of customers that is told, written from its lowest member; none if there is no cycle.
 pub fn first_cycle(matrix: &Matrix, heap: Global) -> Result<Option<Vec<u8>>, AllocError>
-    ensures { IfOk result (λ o. MatchOption o (NoCycle (rel matrix.now)) (λ ring. First (rel matrix.now) ring.items)) }
+    ensures { IfOk result (λ o.
+        MatchOption o (NoCycle (rel matrix.now)) (λ ring. First (rel matrix.now) ring.items)) }
 {
     // a loop: a chain would hand the steps on in a pair with their slope, or end in `transpose()` for what `?` says here
     for low in 0..matrix.networks() {

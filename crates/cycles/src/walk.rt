@@ -1,6 +1,7 @@
 // Walking up from a network, from customer to provider, level by level.
 ghost use Rattle.std.specs.Prelude.{◌≡◌, ℕ, ◌+◌, ◌<◌, ◌≤◌, slice_index};
-ghost use Rattle.relations.specs.Between.{provider};
+ghost use Rattle.model.specs.Relations.{provider};
+ghost use Rattle.model.specs.declared.limits.TheConstants.{MOST_NETWORKS};
 ghost use Rattle.relations.specs.Table.{rel};
 ghost use Rattle.cycles.specs.Walk.{Fewest, Known, Spread, Walked, unseen};
 
@@ -15,7 +16,7 @@ type Steps = [u8; 64];
 pub(crate) struct Slope<'a> {
     pub matrix: &'a Matrix,
     pub low: u8,
-    ghost is_in_table: { low < 64 },
+    ghost is_in_table: { low < MOST_NETWORKS },
 }
 
 impl Slope<'_> {
@@ -29,7 +30,8 @@ impl Slope<'_> {
     // Writes `step` for each provider of `from`, from `low` on, that is not yet seen. Was there any?
     fn meet(self, from: u8, step: u8, steps: &mut Steps) -> bool
         requires { 0 < step }
-        ensures { Spread (rel self.entry.matrix.now) self.entry.low step (λ v w. v ≡ from) steps.old steps.new result }
+        ensures { Spread (rel self.entry.matrix.now) self.entry.low step
+            (λ v w. v ≡ from) steps.old steps.new result }
     {
         let mut met = false;
         // over numbers, since each is asked of the table, and written at
@@ -45,7 +47,8 @@ impl Slope<'_> {
     // Goes one step on from each network that `level` steps lead to. Was a network met that was not yet seen?
     fn rise(self, level: u8, steps: &mut Steps) -> bool
         requires { (0 < level) × (level < 255) }
-        ensures { Spread (rel self.entry.matrix.now) self.entry.low (level + 1) (λ v w. slice_index steps.old v ≡ level) steps.old steps.new result }
+        ensures { Spread (rel self.entry.matrix.now) self.entry.low (level + 1)
+            (λ v w. slice_index steps.old v ≡ level) steps.old steps.new result }
     {
         let mut met = false;
         // over numbers, since `meet` takes each, and writes to the whole
@@ -60,8 +63,10 @@ impl Slope<'_> {
     // Rises for as long as that meets a network not yet seen.
     fn climb(self, level: u8, steps: &mut Steps)
         requires some { 0 < level }
-        requires bound { level + unseen steps.old ≤ 65 }
-        ensures { (start : ℕ) → Known (rel self.entry.matrix.now) self.entry.low level start steps.old → Walked (rel self.entry.matrix.now) self.entry.low start steps.new }
+        requires bound { level + unseen steps.old ≤ MOST_NETWORKS + 1 }
+        ensures { (start : ℕ) →
+            Known (rel self.entry.matrix.now) self.entry.low level start steps.old →
+            Walked (rel self.entry.matrix.now) self.entry.low start steps.new }
     {
         if self.rise(level, steps) {
             self.climb(level + 1, steps);

@@ -1,8 +1,8 @@
-// Bytes in hex, two digits each; none is written `-`.
+//! Bytes in hex, two digits each; none is written `-`.
 use std::alloc::{AllocError, Global};
 use std::fmt;
 
-// Bytes, shown.
+/// Bytes, shown.
 #[derive(Drop)]
 pub(crate) struct Hex<'a>(pub(crate) &'a [u8]);
 
@@ -28,7 +28,7 @@ fn byte(digits: &[u8]) -> Option<u8> {
     Some((high * 16 + low) as u8)
 }
 
-// The bytes of a word: those of its pairs of digits.
+/// The bytes of a word: those of its pairs of digits.
 pub(crate) fn bytes_of(word: &str, heap: Global) -> Result<Vec<u8>, AllocError> {
     word.as_bytes().chunks(2).filter_map(byte).collect(heap)
 }

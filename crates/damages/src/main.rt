@@ -1,8 +1,8 @@
-// damages TIES BLOCKS: gives boxes the things on standard input, most of them damaged, and says of each how many bytes it has and
-// what is written, or which fault it has.
-//
-// A line is a word, the bytes of a thing in hex, or `-` for none, and what it is. `network N` starts the box of network N, with
-// every line down; of `keep` the box goes on from what it then holds, and `try` is made on a copy of it.
+//! damages TIES BLOCKS: gives boxes the messages on standard input, most of them damaged, and says of each how many bytes
+//! it has and what is written, or which fault it has.
+//!
+//! A line is a word, the bytes of a message in hex, or `-` for none, and what it is. `network N` starts the box of network
+//! N, with every line down; of `keep` the box goes on from what it then holds, and `try` is made on a copy of it.
 #![tactic(auto)]
 
 mod hex;
@@ -16,7 +16,7 @@ use std::env;
 use std::process::ExitCode;
 use text::Numbered;
 
-// Tells what became of a thing.
+// Tells what became of a message.
 fn tell(rt: &HostRuntime, answered: Result<usize, Refusal>, written: &[u8]) -> anyhow::Result<()> {
     match answered {
         Ok(length) => println!(rt; "takes {length} bytes, writes {}", Hex(written))?,
@@ -37,15 +37,15 @@ fn tell(rt: &HostRuntime, answered: Result<usize, Refusal>, written: &[u8]) -> a
     Ok(())
 }
 
-// Gives a box a thing, and tells what became of it.
+// Gives a box a message, and tells what became of it.
 fn give(
     rt: &HostRuntime,
     ground: &Ground,
     village: &mut Village,
-    thing: &[u8],
+    message: &[u8],
 ) -> anyhow::Result<()> {
     let mut written = Vec::new(rt.alloc());
-    let answered = village.take(ground, thing, &mut written);
+    let answered = village.take(ground, message, &mut written);
     tell(rt, answered, written.as_slice())
 }
 

@@ -2,8 +2,10 @@
 use Rattle.std.proofs.Common.{◌≡◌, ℕ, zero, suc, Bool, true, ◌&&◌, eqb, refl, ap, ◌∙◌, sym, arith}
 use Rattle.std.proofs.lemmas.Bool.{and_parts, eqb-true}
 use Rattle.std.proofs.lemmas.Bool.Decides.{nat_tests}
-use Rattle.links.specs.Packets.{Why, no_block, no_route, no_hops, Trip, arrives, lost, on_its_way}
-use Rattle.forwarding.specs.Ends.{Ended}
+use Rattle.model.specs.declared.drop_reason.DropReason.{DropReason}
+use Rattle.model.specs.declared.drop_reason.DropReason.TheVariants.{NoBlock, NoRoute, NoHops}
+use Rattle.model.specs.Packets.{Trip, arrives, lost, on_its_way}
+use Rattle.model.specs.Ends.{Ended}
 
 -- a trip as four numbers, and back
 abbrev kind : Trip → ℕ
@@ -21,30 +23,30 @@ steps (arrives i n) = n
 steps (lost i n why) = n
 steps (on_its_way i) = 0
 
-abbrev cause : Why → ℕ
-cause no_block = 0
-cause no_route = 1
-cause no_hops = 2
+abbrev cause : DropReason → ℕ
+cause NoBlock = 0
+cause NoRoute = 1
+cause NoHops = 2
 
 abbrev causes : Trip → ℕ
 causes (arrives i n) = 0
 causes (lost i n why) = cause why
 causes (on_its_way i) = 0
 
-abbrev why_of : ℕ → Why
-why_of zero = no_block
-why_of (suc zero) = no_route
-why_of (suc (suc c)) = no_hops
+abbrev why_of : ℕ → DropReason
+why_of zero = NoBlock
+why_of (suc zero) = NoRoute
+why_of (suc (suc c)) = NoHops
 
 abbrev trip_of : ℕ → ℕ → ℕ → ℕ → Trip
 trip_of zero i n c = arrives i n
 trip_of (suc zero) i n c = lost i n (why_of c)
 trip_of (suc (suc k)) i n c = on_its_way i
 
-why_back : (why : Why) → why_of (cause why) ≡ why
-why_back no_block = refl
-why_back no_route = refl
-why_back no_hops = refl
+why_back : (why : DropReason) → why_of (cause why) ≡ why
+why_back NoBlock = refl
+why_back NoRoute = refl
+why_back NoHops = refl
 
 trip_back : (t : Trip) → trip_of (kind t) (place t) (steps t) (causes t) ≡ t
 trip_back (arrives i n) = refl

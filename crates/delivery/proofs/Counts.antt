@@ -1,15 +1,15 @@
 -- What a number for each packet says of what is in flight. Assumes nothing.
 use Rattle.std.proofs.Common.{◌≡◌, ℕ, zero, suc, ◌+◌, List, [], ◌∷◌, map, sum_by, refl, ap, ◌∙◌, arith}
 use Rattle.std.proofs.lemmas.List.Sums.{sum_by-append, sum_by-cons}
-use Rattle.relations.specs.Lists.{gather}
-use Rattle.links.specs.World.{World}
-use Rattle.links.specs.Local.{Update}
-use Rattle.links.specs.Packets.{Packet}
-use Rattle.links.specs.Run.{Item, update, packet, State, updates}
-use Rattle.convergence.specs.Measure.{sum}
+use Rattle.model.specs.Lists.{gather}
+use Rattle.model.specs.World.{World}
+use Rattle.model.specs.Local.{Update}
+use Rattle.model.specs.Packets.{Packet}
+use Rattle.model.specs.Run.{Item, update, packet, State, updates}
+use Rattle.model.specs.Measure.{sum}
 use Rattle.convergence.proofs.Flows.{flow}
 use Rattle.convergence.proofs.Sums.{sum_same}
-use Rattle.delivery.specs.Flight.{in_flight, packets}
+use Rattle.model.specs.Flight.{in_flight, packets}
 
 -- what a number for each packet says of an item that is in flight to network j
 abbrev pub count : (ℕ → Packet → ℕ) → ℕ → Item → ℕ

@@ -3,20 +3,21 @@ use Rattle.std.proofs.Common.{◌≡◌, ℕ, zero, suc, ◌+◌, ◌<◌, ◌�
 use Rattle.std.specs.List.{AllByRecursion}
 use Rattle.std.proofs.ByRecursion.{All-append}
 use Rattle.std.proofs.lemmas.Bool.{cases_lt}
-use Rattle.links.specs.World.{World, Sound}
-use Rattle.links.specs.Local.{Local}
-use Rattle.links.specs.Packets.{Packet, Passed, no_block, no_route, no_hops, arrived, dropped, handed, passed, Trip, ending, trip}
-use Rattle.links.specs.Run.{Item, update, packet, State, Move, Reach, move, hears, taken}
-use Rattle.links.specs.Promise.{Lookup}
-use Rattle.convergence.specs.Levels.{Heights}
-use Rattle.convergence.specs.Measure.{left}
+use Rattle.model.specs.World.{World, Sound}
+use Rattle.model.specs.Local.{Local}
+use Rattle.model.specs.Packets.{Packet, Forwarded, arrived, dropped, handed, forwarded, Trip, ending, trip, Lookup}
+use Rattle.model.specs.declared.drop_reason.DropReason.TheVariants.{NoBlock, NoRoute, NoHops}
+use Rattle.model.specs.Run.{Item, update, packet, State, Move, Reach, taken}
+use Rattle.model.specs.Steps.{move, hears}
+use Rattle.model.specs.Levels.{Heights}
+use Rattle.model.specs.Measure.{left}
 use Rattle.convergence.proofs.Falling.{falls}
 use Rattle.convergence.proofs.Keeping.{flies_up}
 use Rattle.convergence.proofs.Standing.{height, height_stands}
 use Rattle.convergence.proofs.Steps.{run_kept}
-use Rattle.forwarding.specs.Ends.{Ended, end_at, end_heard, end_of_first, end_of_item, ends, steps_of}
-use Rattle.delivery.specs.Flight.{Heard, hearing, none, Still, RightTrip, hearings}
-use Rattle.delivery.specs.Laws.{EveryFateEnds, EveryPacketEnds, HandedOn}
+use Rattle.model.specs.Ends.{Ended, end_at, end_heard, end_of_first, end_of_item, ends, steps_of}
+use Rattle.model.specs.Flight.{Heard, hearing, none, Still, RightTrip, hearings}
+use Rattle.model.specs.PacketLaws.{EveryFateEnds, EveryPacketEnds, HandedOn}
 use Rattle.delivery.proofs.Causes.{Caused, caused}
 use Rattle.delivery.proofs.Hearings.{heard_on}
 use Rattle.delivery.proofs.Hops.{hops_fall}
@@ -33,16 +34,16 @@ bounded w find sound tall stands s t es run (hearing s' i j x rest hi hj e t' la
 abbrev AllRight : World → Lookup → List Ended → Type 0
 AllRight w find es = AllByRecursion (λ (e : Ended). RightTrip w find e.address e.trip) es
 
-right_at : (w : World) (find : Lookup) (i : ℕ) (p : Packet) (o : Passed) → Caused w i p (find p.address) o → AllRight w find (ends (end_at i p o))
+right_at : (w : World) (find : Lookup) (i : ℕ) (p : Packet) (o : Forwarded) → Caused w i p (find p.address) o → AllRight w find (ends (end_at i p o))
 right_at w find i p arrived c = ((omega arith, c.0, c.1, c.2), tt)
-right_at w find i p (dropped no_block) c = ((omega arith, c), tt)
-right_at w find i p (dropped no_route) c = (omega arith, tt)
-right_at w find i p (dropped no_hops) c = (omega (arith, c), tt)
+right_at w find i p (dropped NoBlock) c = ((omega arith, c), tt)
+right_at w find i p (dropped NoRoute) c = (omega arith, tt)
+right_at w find i p (dropped NoHops) c = (omega (arith, c), tt)
 right_at w find i p (handed k q) c = tt
 
 right_item : (w : World) (find : Lookup) (j : ℕ) (l : Local) (x : Item) → AllRight w find (ends (end_of_item w find j l x))
 right_item w find j l (update u) = tt
-right_item w find j l (packet p) = right_at w find j p (passed w find j l p) (caused w j l p (find p.address))
+right_item w find j l (packet p) = right_at w find j p (forwarded w find j l p) (caused w j l p (find p.address))
 
 all_right : (w : World) (find : Lookup) (s t : State) (es : List Ended) → Heard w find s t es → AllRight w find es
 all_right w find s t es (none s') = tt
@@ -53,20 +54,20 @@ all_right w find s t es (hearing s' i j x rest hi hj e t' later h) =
 
 -- a trip with one step for each hop that is left, and one more
 module _ (w : World) (find : Lookup) (locals : ℕ → Local) where
-  right_trip : (i : ℕ) (p : Packet) (steps : ℕ) → steps + p.hops ≡ 255 → (further : ℕ → Packet → Trip) → ((k : ℕ) (q : Packet) → HandedOn w (locals i) p k q → RightTrip w find p.address (further k q)) → (o : Passed) → passed w find i (locals i) p ≡ o → Caused w i p (find p.address) o → RightTrip w find p.address (ending further i steps o)
+  right_trip : (i : ℕ) (p : Packet) (steps : ℕ) → steps + p.hops ≡ 255 → (further : ℕ → Packet → Trip) → ((k : ℕ) (q : Packet) → HandedOn w (locals i) p k q → RightTrip w find p.address (further k q)) → (o : Forwarded) → forwarded w find i (locals i) p ≡ o → Caused w i p (find p.address) o → RightTrip w find p.address (ending further i steps o)
   right_trip i p steps all further on arrived e c = (omega arith, c.0, c.1, c.2)
-  right_trip i p steps all further on (dropped no_block) e c = (omega arith, c)
-  right_trip i p steps all further on (dropped no_route) e c = omega arith
-  right_trip i p steps all further on (dropped no_hops) e c = omega (arith, c)
+  right_trip i p steps all further on (dropped NoBlock) e c = (omega arith, c)
+  right_trip i p steps all further on (dropped NoRoute) e c = omega arith
+  right_trip i p steps all further on (dropped NoHops) e c = omega (arith, c)
   right_trip i p steps all further on (handed k q) e c = on k q (hops_fall w find i (locals i) p k q e)
 
   trip_ends : (hops steps i : ℕ) (p : Packet) → p.hops ≡ hops → steps + hops ≡ 255 → RightTrip w find p.address (trip w find locals (suc hops) steps i p)
   trip_ends zero steps i p e all =
-      right_trip i p steps (omega arith) (λ k q. trip w find locals zero (suc steps) k q) (λ k q h. absurd (let f = h.hops in omega (arith, f))) (passed w find i (locals i) p) refl (caused w i (locals i) p (find p.address))
+      right_trip i p steps (omega arith) (λ k q. trip w find locals zero (suc steps) k q) (λ k q h. absurd (let f = h.hops in omega (arith, f))) (forwarded w find i (locals i) p) refl (caused w i (locals i) p (find p.address))
   trip_ends (suc hops) steps i p e all =
       right_trip i p steps (omega arith) (λ k q. trip w find locals (suc hops) (suc steps) k q)
       (λ k q h. subst (λ a. RightTrip w find a (trip w find locals (suc hops) (suc steps) k q)) h.address (trip_ends hops (suc steps) k q (let f = h.hops in omega (arith, f)) (omega arith)))
-      (passed w find i (locals i) p) refl (caused w i (locals i) p (find p.address))
+      (forwarded w find i (locals i) p) refl (caused w i (locals i) p (find p.address))
 
 pub every_fate_ends : EveryFateEnds
 every_fate_ends w find locals i p few = trip_ends w find locals p.hops (steps_of p) i p refl (omega arith)

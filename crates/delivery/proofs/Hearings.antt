@@ -1,10 +1,11 @@
 -- Hearings one after the other. Assumes nothing.
 use Rattle.std.proofs.Common.{◌≡◌, ℕ, ◌<◌, List, [], ◌∷◌, ◌++◌, subst, sym, append_assoc, append-nil}
-use Rattle.links.specs.World.{World}
-use Rattle.links.specs.Run.{Item, State, Reach, move, hears, taken}
-use Rattle.links.specs.Promise.{Lookup}
-use Rattle.forwarding.specs.Ends.{Ended, end_heard, ends}
-use Rattle.delivery.specs.Flight.{Heard, hearing, none}
+use Rattle.model.specs.World.{World}
+use Rattle.model.specs.Run.{Item, State, Reach, taken}
+use Rattle.model.specs.Steps.{move, hears}
+use Rattle.model.specs.Packets.{Lookup}
+use Rattle.model.specs.Ends.{Ended, end_heard, ends}
+use Rattle.model.specs.Flight.{Heard, hearing, none}
 
 -- what is heard in a run goes on with it
 pub heard_on : (w : World) (find : Lookup) (s t : State) (es : List Ended) → Reach w find s → Heard w find s t es → Reach w find t

@@ -2,17 +2,17 @@
 use Rattle.std.proofs.Common.{◌≡◌, ℕ, ◌+◌, ◌<◌, eqb, List, [], ◌∷◌, map, sum_by, refl, ap, ◌∙◌, arith}
 use Rattle.std.proofs.lemmas.Bool.{eq-eqb, eqb-true}
 use Rattle.std.proofs.lemmas.List.Sums.{sum_by-append, sum_by-cons}
-use Rattle.links.specs.World.{World}
-use Rattle.links.specs.Hearing.{sent_on_hearing}
-use Rattle.links.specs.Packets.{passed}
-use Rattle.links.specs.Run.{Item, update, packet, State, onward, queued, taken, updates}
-use Rattle.links.specs.Promise.{Lookup}
-use Rattle.convergence.specs.Measure.{sum}
+use Rattle.model.specs.World.{World}
+use Rattle.model.specs.Hearing.{sent_on_hearing}
+use Rattle.model.specs.Packets.{forwarded, Lookup}
+use Rattle.model.specs.Run.{Item, update, packet, State, onward, taken, updates}
+use Rattle.model.specs.Steps.{queued}
+use Rattle.model.specs.Measure.{sum}
 use Rattle.convergence.proofs.Flows.{flow_appended, flow_queued}
 use Rattle.convergence.proofs.Sums.{sum_none, sum_same}
-use Rattle.forwarding.specs.Ends.{Ended, end_heard, end_of_first, ends}
-use Rattle.delivery.specs.Flight.{Heard, hearing, none, addresses}
-use Rattle.delivery.specs.Laws.{NoneLost}
+use Rattle.model.specs.Ends.{Ended, end_heard, end_of_first, ends}
+use Rattle.model.specs.Flight.{Heard, hearing, none, addresses}
+use Rattle.model.specs.PacketLaws.{NoneLost}
 use Rattle.delivery.proofs.Fates.{address_kept}
 use Rattle.delivery.proofs.Counts.{count, no_packet, packet_flow, sum_in_flight}
 use Rattle.delivery.proofs.Orders.{reordered}
@@ -34,7 +34,7 @@ module _ (w : World) (find : Lookup) (f : ℕ → ℕ) where
       let d : ended (ends (end_heard w find i j s)) ≡ 0 = ap (λ xs. ended (ends (end_of_first w find j (s.locals j) xs))) e in
       omega (arith, a, b, c, d)
   hearing_loses_none s i j (packet p) rest hi hj e =
-      let o = passed w find j (s.locals j) p in
+      let o = forwarded w find j (s.locals j) p in
       let a = flow_appended w.n (λ a. count (λ k q. f q.address)) j hj (onward o) (queued i j rest s.flight) in
       let b = flow_queued w.n (λ a. count (λ k q. f q.address)) i j hi hj (packet p) rest s.flight e in
       let c = address_kept w find s.locals j p f o refl in

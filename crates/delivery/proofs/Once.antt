@@ -1,16 +1,18 @@
 -- What ends while things are heard, in whatever order, from a state in which no update is in flight. Assumes nothing.
-use Rattle.std.proofs.Common.{◌≡◌, ℕ, List, [], ◌∷◌, ◌++◌, map, sum_by, ap, subst, sym, arith, append_assoc, append-nil}
+use Rattle.std.proofs.Common.{refl, length, true, ◌≡◌, ℕ, List, [], ◌∷◌, ◌++◌, map, sum_by, ap, subst, sym, arith, append_assoc, append-nil}
 use Rattle.std.specs.List.Sorted.{IsPermutation}
 use Rattle.std.proofs.lemmas.List.Sorted.{IsPermutation-append_comm, IsPermutation-append_left, IsPermutation-append_right, IsPermutation-refl, IsPermutation-trans, sum_by-IsPermutation}
-use Rattle.relations.proofs.Gathered.{gather_none}
-use Rattle.links.specs.World.{World}
-use Rattle.links.specs.Packets.{Packet}
-use Rattle.links.specs.Run.{Item, State, NoUpdate, Quiescent, Reach, move, send, hears, posted, taken}
-use Rattle.links.specs.Run as Run
-use Rattle.links.specs.Promise.{Lookup}
-use Rattle.forwarding.specs.Ends.{Ended, end_heard, end_posted, ends, fate, fresh}
-use Rattle.delivery.specs.Flight.{Heard, hearing, none, Still, fates, in_flight, packets}
-use Rattle.delivery.specs.Laws.{EachEndsOnce, OneEnd, SentArrives, SentEndsOnce}
+use Rattle.model.proofs.Gathered.{gather_none}
+use Rattle.model.specs.Packets.{Trip, arrives, lost, on_its_way}
+use Rattle.model.specs.Promise.{ArrivesHome}
+use Rattle.model.specs.World.{World}
+use Rattle.model.specs.Packets.{Packet, Lookup}
+use Rattle.model.specs.Run.{State, NoUpdate, Quiescent, Reach, posted, taken, fresh}
+use Rattle.model.specs.Steps.{move, send, hears}
+use Rattle.model.specs.Steps as Steps
+use Rattle.model.specs.Ends.{Ended, end_heard, end_posted, ends, fate}
+use Rattle.model.specs.Flight.{Heard, hearing, none, Still, fates, in_flight, packets}
+use Rattle.model.specs.PacketLaws.{EachEndsOnce, OneEnd, SentArrives, SentEndsOnce}
 use Rattle.delivery.proofs.Carrying.{hearing_keeps, posted_quiet, posting_adds}
 use Rattle.delivery.proofs.Homes.{fates_at_home}
 use Rattle.delivery.proofs.Alike.{alike, own_end, same_end}
@@ -40,7 +42,7 @@ each_ends_once w find s run quiet t es h still =
 
 pub sent_ends_once : SentEndsOnce
 sent_ends_once w find s run quiet i address hi t es h still =
-    let all = each_ends_once w find (posted w find i address s) (send run (Run.sends s i address hi)) (posted_quiet w find s quiet i address) t es h still in
+    let all = each_ends_once w find (posted w find i address s) (send run (Steps.sends s i address hi refl)) (posted_quiet w find s quiet i address) t es h still in
     let more = posting_adds w find s i address hi in
     joined _ (fates w find (posted w find i address s)) [] (ends (end_posted w find i address s)) es more all
 
@@ -54,5 +56,17 @@ one_end w find s run still i address hi t es h after =
 
 pub sent_arrives : SentArrives
 sent_arrives w find sound s run quiet i address b j path hi hb at c t es h still =
-    subst (λ e. IsPermutation (fates w find s ++ e ∷ []) (ends (end_posted w find i address s) ++ es)) ((fates_at_home w find sound s run quiet i address hi).over_path b j path hb at c)
-    (sent_ends_once w find s run quiet i address hi t es h still)
+    let e = fate w find s.locals i (fresh address) in
+    let there = fates_at_home w find sound s run quiet i address hi in
+    let home = arrived_at w b (length path.networks) e.trip (there.over_path b j path hb at c) in (
+      home.0,
+      home.1,
+      subst (λ x. IsPermutation (fates w find s ++ x ∷ []) (ends (end_posted w find i address s) ++ es)) (λ x. record { address = there.kept x; trip = home.2 x })
+          (sent_ends_once w find s run quiet i address hi t es h still),
+    )
+  where
+    -- a trip that arrives at a home does so at one
+    arrived_at : (w : World) (b steps : ℕ) (t : Trip) → ArrivesHome w b steps t → (home : ℕ) × (w.is_home b home ≡ true) × (t ≡ arrives home steps)
+    arrived_at w b steps (arrives i n) h = (i, h.0, ap (arrives i) h.1)
+    arrived_at w b steps (lost i n why) h = absurd h
+    arrived_at w b steps (on_its_way i) h = absurd h

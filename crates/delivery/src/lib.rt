@@ -1,4 +1,4 @@
-// What becomes of packets: each ends exactly once, and where the stable routing says.
+//! What becomes of packets: each ends exactly once, and where the stable routing says.
 #![tactic(auto)]
 
 mod laws;

@@ -1,2 +1,3 @@
-pub mod Ends
-pub mod Passing
+-- Packets as code holds them, and what a router does with one.
+pub mod Lookup
+pub mod Forwarding

@@ -1,49 +1,42 @@
-// Packets: what becomes of one at a network, and how it ends.
+//! Packets: what becomes of one at a network, and how it ends.
 ghost use Rattle.std.specs.Prelude.{◌≡◌, ◌-◌};
 ghost use Rattle.std.specs.Option.{option_map};
-ghost use Rattle.forwarding.specs.Ends.{end_at, fresh as fresh_packet};
-ghost use Rattle.forwarding.specs.Passing.{ended_of, packet_of, passed_of};
+ghost use Rattle.model.specs.Ends.{end_at};
+ghost use Rattle.model.specs.Run.{fresh as fresh_packet};
+ghost use Rattle.model.specs.declared.limits.TheConstants.{MOST_HOPS};
+ghost use Rattle.forwarding.specs.Forwarding.{ended_of, packet_of, forwarded_of};
 
+use model::{DropReason, MOST_HOPS};
 use text::Address;
 
-// The hops that a packet has when it is sent.
-const MOST_HOPS: u8 = 255;
-
-// An address, and how many hops are left.
+/// An address, and how many hops are left.
 #[derive(Clone, Copy, Debug)]
 pub struct Packet {
+    /// where it goes
     pub address: Address,
+    /// how many hops are left
     pub hops: u8,
 }
 
-// Why a packet is dropped.
-#[derive(Clone, Copy, Debug, PartialEq, Eq)]
-pub enum Why {
-    // no block holds its address
-    NoBlock,
-    // the network goes by nothing for the block
-    NoRoute,
-    // no hop is left
-    NoHops,
-}
-
-// What becomes of a packet at a network.
+/// What becomes of a packet at a network.
 #[derive(Clone, Copy, Debug)]
-pub enum Passed {
+pub enum Forwarded {
+    /// it is at a home of its address
     Arrived,
-    Dropped(Why),
-    // to a neighbour, with one hop less
+    /// it goes no further
+    Dropped(DropReason),
+    /// to a neighbour, with one hop less
     Handed { neighbour: u8, packet: Packet },
 }
 
-// How a packet ended.
+/// How a packet ended.
 #[derive(Clone, Copy, Debug, PartialEq, Eq)]
 pub enum Fate {
     Arrived,
-    Dropped(Why),
+    Dropped(DropReason),
 }
 
-// The end of a packet: for which address it was, where it ended and after how many steps.
+/// The end of a packet: for which address it was, where it ended and after how many steps.
 #[derive(Clone, Copy, Debug)]
 pub struct Ending {
     pub address: Address,
@@ -53,7 +46,7 @@ pub struct Ending {
 }
 
 impl Packet {
-    // A packet as people send it.
+    /// A packet as people send it.
     pub fn new(address: Address) -> Packet
         ensures { packet_of result ≡ fresh_packet address.0 }
     {
@@ -67,7 +60,7 @@ impl Packet {
     fn ended(self, network: u8, fate: Fate) -> Ending
         ensures address { result.address ≡ self.address }
         ensures network { result.network ≡ network }
-        ensures steps { result.steps ≡ 255 - self.hops }
+        ensures steps { result.steps ≡ MOST_HOPS - self.hops }
         ensures fate { result.fate ≡ fate }
     {
         Ending {
@@ -78,14 +71,15 @@ impl Packet {
         }
     }
 
-    // Its end at a network where this becomes of it; none where it is handed on.
-    pub fn ending(self, network: u8, passed: Passed) -> Option<Ending>
-        ensures { option_map ended_of result ≡ end_at network (packet_of self) (passed_of passed) }
+    /// Its end at a network where this becomes of it; none where it is handed on.
+    pub fn ending(self, network: u8, forwarded: Forwarded) -> Option<Ending>
+        ensures { option_map ended_of result
+            ≡ end_at network (packet_of self) (forwarded_of forwarded) }
     {
-        match passed {
-            Passed::Arrived => Some(self.ended(network, Fate::Arrived)),
-            Passed::Dropped(why) => Some(self.ended(network, Fate::Dropped(why))),
-            Passed::Handed { .. } => None,
+        match forwarded {
+            Forwarded::Arrived => Some(self.ended(network, Fate::Arrived)),
+            Forwarded::Dropped(why) => Some(self.ended(network, Fate::Dropped(why))),
+            Forwarded::Handed { .. } => None,
         }
     }
 }

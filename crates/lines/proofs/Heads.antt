@@ -1,10 +1,10 @@
 -- The next entry of a list of turns. Assumes nothing.
 use Rattle.std.proofs.Common.{◌≡◌, ℕ, Bool, false, List, Some, None, Ok, Err, Option, Result, sym, refl, ap, ◌∙◌}
 use Rattle.std.proofs.lemmas.Bool.{cond-true, cond-false}
-use Rattle.relations.specs.Between.{related}
+use Rattle.model.specs.Relations.{related}
 use Rattle.relations.specs.Sound.{networks, relation}
 use Rattle.relations.specs.declared.sound.Relations.{Relations}
-use Rattle.links.specs.Stable.{Links}
+use Rattle.model.specs.Stable.{Links}
 use Rattle.script.specs.Next.{line_of}
 use Rattle.script.specs.Turns.{turn_entries}
 use Rattle.script.specs.Whole.{Entry, headed}

@@ -3,10 +3,10 @@ use Rattle.std.proofs.Common.{◌≡◌, ℕ, Bool, true, false, cond, List, [],
 use Rattle.std.specs.Bool.{MatchBool}
 use Rattle.std.specs.List.{AllByRecursion}
 use Rattle.std.proofs.lemmas.Bool.{both_ways, cond-true, cond-false}
-use Rattle.relations.specs.Between.{related}
+use Rattle.model.specs.Relations.{related}
 use Rattle.relations.specs.Sound.{networks, relation}
 use Rattle.relations.specs.declared.sound.Relations.{Relations}
-use Rattle.links.specs.Stable.{Links}
+use Rattle.model.specs.Stable.{Links}
 use Rattle.script.specs.Turns.{turn_entries}
 use Rattle.script.specs.Whole.{Entry}
 use Rattle.script.specs.declared.cause.Cause as script

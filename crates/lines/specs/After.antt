@@ -1,10 +1,10 @@
 -- The links after a list of turns. Assumes nothing.
 use Rattle.std.specs.Prelude.{◌≡◌, ℕ, ◌<◌, Bool, true, false, cond, List, [], ◌∷◌, Ok, Err, Result}
 use Rattle.text.specs.declared.faults.Fault.{Fault}
-use Rattle.relations.specs.Between.{related}
+use Rattle.model.specs.Relations.{related}
 use Rattle.relations.specs.Sound.{networks, relation}
 use Rattle.relations.specs.declared.sound.Relations.{Relations}
-use Rattle.links.specs.Stable.{Links}
+use Rattle.model.specs.Stable.{Links}
 use Rattle.script.specs.Next.{line_of}
 use Rattle.script.specs.Turns.{turn_entries}
 use Rattle.script.specs.Whole.{Entry}
@@ -23,7 +23,8 @@ Outcome = Result Links (ℕ × Cause)
 
 -- a turn of two related networks turns their link, and the later lines go on from there; of others there is no link
 abbrev pub turned : Relations → Links → ℕ → Result Turn script.Cause → (Links → Outcome) → Outcome
-turned r links k (Ok t) on = cond (related (relation r t.first t.second)) (on (with_link links t.first t.second t.up)) (Err (k, NoLink))
+turned r links k (Ok t) on =
+    cond (related (relation r t.first t.second)) (on (with_link links t.first t.second t.up)) (Err (k, NoLink))
 turned r links k (Err c) on = Err (k, Line c)
 
 -- what becomes of links by the entries of a list, one after the other
@@ -66,4 +67,6 @@ Shortens (Err e) was is = Unit {0}
 
 -- two networks are related, and their link has turned
 abbrev pub Linked : Relations → Turn → Links → Links → Type 0
-Linked r t before after = (related (relation r t.first t.second) ≡ true) × ((i j : ℕ) → after i j ≡ with_link before t.first t.second t.up i j)
+Linked r t before after =
+    (related (relation r t.first t.second) ≡ true) ×
+    ((i j : ℕ) → after i j ≡ with_link before t.first t.second t.up i j)

@@ -1,10 +1,10 @@
 -- What holds of every list of turns. Assumes nothing.
 use Rattle.std.specs.Prelude.{◌≡◌, ℕ, Bool, true, false, ◌&&◌, ◌||◌, List, ◌∷◌, ◌++◌, Ok, Err, Result, MatchBool, ◌==◌}
 use Rattle.std.specs.List.{AllByRecursion}
-use Rattle.relations.specs.Between.{related}
+use Rattle.model.specs.Relations.{related}
 use Rattle.relations.specs.Sound.{networks, relation}
 use Rattle.relations.specs.declared.sound.Relations.{Relations}
-use Rattle.links.specs.Stable.{Links}
+use Rattle.model.specs.Stable.{Links}
 use Rattle.script.specs.Turns.{turn_entries}
 use Rattle.script.specs.Whole.{Entry}
 use Rattle.script.specs.declared.cause.Cause as script
@@ -34,7 +34,11 @@ pub record LastIsUp (i j : ℕ) (es : List (Entry Turn)) : Type 0 where
 
 -- a link is up in the end exactly if the last turn of it says so; so without a turn of it, it is down
 abbrev pub LastTurned : Type 0
-LastTurned = (r : Relations) (text : List ℕ) (links : Links) → links_said r text ≡ Ok links → (i j : ℕ) → MatchBool (links i j) (LastIsUp i j (turn_entries (networks r) 0 text)) (LastIsUp i j (turn_entries (networks r) 0 text) → ⊥)
+LastTurned =
+    (r : Relations) (text : List ℕ) (links : Links) → links_said r text ≡ Ok links → (i j : ℕ) →
+    MatchBool (links i j)
+    (LastIsUp i j (turn_entries (networks r) 0 text))
+    (LastIsUp i j (turn_entries (networks r) 0 text) → ⊥)
 
 -- an entry is a turn of two related networks
 abbrev pub Good : Relations → Entry Turn → Type 0
@@ -42,7 +46,9 @@ Good r e = (t : Turn) × (e.says ≡ Ok t) × (related (relation r t.first t.sec
 
 -- where there are links in the end, each entry is a turn of two related networks
 abbrev pub NoneIsPassedOver : Type 0
-NoneIsPassedOver = (r : Relations) (text : List ℕ) (links : Links) → links_said r text ≡ Ok links → AllByRecursion (Good r) (turn_entries (networks r) 0 text)
+NoneIsPassedOver =
+    (r : Relations) (text : List ℕ) (links : Links) → links_said r text ≡ Ok links →
+    AllByRecursion (Good r) (turn_entries (networks r) 0 text)
 
 -- what is wrong with an entry
 abbrev pub Wrong : Relations → Result Turn script.Cause → Cause → Type 0
@@ -60,4 +66,6 @@ pub record FirstFault (r : Relations) (line : ℕ) (c : Cause) (es : List (Entry
 
 -- the fault that is told is the first
 abbrev pub FaultsAreTheFirst : Type 0
-FaultsAreTheFirst = (r : Relations) (text : List ℕ) (line : ℕ) (c : Cause) → links_said r text ≡ Err (line, c) → FirstFault r line c (turn_entries (networks r) 0 text)
+FaultsAreTheFirst =
+    (r : Relations) (text : List ℕ) (line : ℕ) (c : Cause) → links_said r text ≡ Err (line, c) →
+    FirstFault r line c (turn_entries (networks r) 0 text)

@@ -1,4 +1,4 @@
-// Lists of turns: which links are up after them.
+//! Lists of turns: which links are up after them.
 #![tactic(auto)]
 
 mod cause;

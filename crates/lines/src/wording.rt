@@ -1,6 +1,7 @@
 // A refusal of a list of turns in words.
 ghost use Rattle.std.specs.Prelude.{◌≡◌, Some};
-ghost use Rattle.lines.specs.Words.{cause_words, number};
+ghost use Rattle.lines.specs.Number.{number};
+ghost use Rattle.lines.specs.Words.{cause_words};
 
 use crate::cause::Cause;
 use std::error::Error;
@@ -19,13 +20,13 @@ impl Numbered for Cause {
 }
 
 impl Cause {
-    // The cause in words. It stands beside `Display`, since it can't fail.
+    /// The cause in words, as `Display` prints it.
     pub fn text(self) -> &'static str
         ensures { result.now ≡ cause_words self }
     {
         match self {
             Cause::Line(cause) => cause.text(),
-            Cause::NoLink => "no link between these networks",
+            Cause::NoLink => "no line between these networks",
         }
     }
 }

@@ -1,108 +1,66 @@
--- Which fault of an announcement is told: of its networks, its teller or its way. Assumes nothing.
-use Rattle.std.proofs.Common.{◌≡◌, ℕ, ◌≤◌, Bool, true, false, cond, not, ◌&&◌, ◌||◌, eqb, ltb, leb, List, [], ◌∷◌, length, take, replicate, Some, None, Option, sym, refl, ap, ◌∙◌, arith, length-append}
-use Rattle.selection.specs.Choosing.{related}
-use mathlib.Core.Path.{fun_ext}
+-- A path by value: it is no path, or the checks of an announcement are those of it. Assumes nothing.
+use Rattle.std.proofs.Common.{◌≡◌, ℕ, ◌≤◌, true, false, cond, not, ◌&&◌, ◌||◌, eqb, ltb, leb, List, [], ◌∷◌, length, take, replicate, ◌++◌, Some, None, sym, ap, ◌∙◌, arith, length-append}
 use lib.ListN.{length-replicate}
 use Rattle.std.proofs.lemmas.List.{length-take-le, take-append-le}
+use Rattle.std.proofs.lemmas.Bool.{cond-true, not_from_true}
 use Rattle.std.proofs.lemmas.Bool.Decides.{nat_tests}
-use Rattle.std.specs.List.{find}
-use Rattle.links.specs.declared.fault.Fault.{Fault}
-use Rattle.links.specs.declared.fault.Fault.TheVariants.{BadLength, NoSuchNetwork, NoSuchBlock, NotRelated, LinkDown, WrongStart, WrongEnd, Repeats, NotPaid, NoLink}
-use Rattle.relations.proofs.Firsts.{none_of}
-use Rattle.links.specs.Held.{announcement}
-use Rattle.links.specs.World.{World}
-use Rattle.links.specs.Local.{Local}
-use Rattle.links.specs.Paths.{below}
-use Rattle.links.specs.Hearing.{faults, told, hearing_fault, hearing_has, teller_has, way_has}
-use Rattle.advertisement.specs.Updates.{padded}
+use Rattle.model.specs.Checks.{Checks, first_fault}
+use Rattle.model.specs.Hearing.{bad_length, hearing_checks, hearing_fault, network_checks, teller_checks, way_checks}
+use Rattle.model.specs.Local.{Local}
+use Rattle.model.specs.Paths.{below, path_over}
+use Rattle.model.specs.World.{World}
+use Rattle.model.specs.declared.fault.Fault.{Fault}
+use Rattle.model.specs.declared.fault.Fault.TheVariants.{BadLength, NoSuchNetwork}
+use Rattle.model.specs.declared.limits.TheConstants.{MOST_NETWORKS}
+use Rattle.model.proofs.Checks.{first_of_first, first_of_second, none_told}
+use Rattle.advertisement.specs.Updates.{networks_of, news, padded}
 use Rattle.advertisement.specs.declared.update.Announcement.{Announcement}
+use Rattle.advertisement.specs.declared.update.Update.TheVariants.{Announce}
 
--- where nothing is told, there is no fault; by cases, since one lemma for all lists of faults would be handed each fault's
--- place in its list
-pub none_has : (has : Fault → Bool) → told has ≡ None → (f : Fault) → has f ≡ false
-none_has has e BadLength = (none_of has faults e).0
-none_has has e NoSuchNetwork = (none_of has faults e).1.0
-none_has has e NoSuchBlock = (none_of has faults e).1.1.0
-none_has has e NotRelated = (none_of has faults e).1.1.1.0
-none_has has e LinkDown = (none_of has faults e).1.1.1.1.0
-none_has has e WrongStart = (none_of has faults e).1.1.1.1.1.0
-none_has has e WrongEnd = (none_of has faults e).1.1.1.1.1.1.0
-none_has has e Repeats = (none_of has faults e).1.1.1.1.1.1.1.0
-none_has has e NotPaid = (none_of has faults e).1.1.1.1.1.1.1.1.0
-none_has has e NoLink = (none_of has faults e).1.1.1.1.1.1.1.1.1.0
-
--- what is told of the teller is told whatever comes after it
-teller_first : (a b c d : Bool) (rest : Option Fault) (f : Fault) → cond a (Some NoSuchNetwork) (cond b (Some NoSuchBlock) (cond c (Some NotRelated) (cond d (Some LinkDown) None))) ≡ Some f → cond a (Some NoSuchNetwork) (cond b (Some NoSuchBlock) (cond c (Some NotRelated) (cond d (Some LinkDown) rest))) ≡ Some f
-teller_first true b c d rest f e = e
-teller_first false true c d rest f e = e
-teller_first false false true d rest f e = e
-teller_first false false false true rest f e = e
-teller_first false false false false rest f e = cc
-
-or_none : (b : Bool) → b ≡ (b || false)
-or_none true = refl
-or_none false = refl
-
--- a path by value: as many networks as its length says, and those of its array where there is room
+-- as many networks as its length says, and those of its array where there is room
 pub length_padded : (networks : List ℕ) (k : ℕ) → length (padded networks k) ≡ k
 length_padded networks k = length-take-le k _ (omega (arith, length-append networks (replicate k 0), length-replicate {A = ℕ} k 0))
 
-padded_is : (networks : List ℕ) (k : ℕ) → length networks ≡ 64 → k ≤ 64 → padded networks k ≡ take k networks
+padded_is : (networks : List ℕ) (k : ℕ) → length networks ≡ MOST_NETWORKS → k ≤ MOST_NETWORKS → padded networks k ≡ take k networks
 padded_is networks k long small = take-append-le k networks (replicate k 0) (omega arith)
 
-module _ (a : Announcement) where
-  abbrev told_path : List ℕ
-  told_path = padded a.networks a.length
+bad : (networks : List ℕ) (k : ℕ) → bad_length (padded networks k) ≡ (eqb k 0 || ltb MOST_NETWORKS k)
+bad networks k = ap (λ m. eqb m 0 || ltb MOST_NETWORKS m) (length_padded networks k)
 
-  abbrev bad : Bool
-  bad = eqb (length told_path) 0 || ltb 64 (length told_path)
-
-  a_path : (p : List ℕ) → length a.networks ≡ 64 → Some p ≡ cond (ltb 0 a.length && leb a.length 64) (Some (take a.length a.networks)) None → (bad ≡ false) × (told_path ≡ p)
-  a_path p room e =
-      let right = fits a.length p (take a.length a.networks) e in
-      (ap (λ m. eqb m 0 || ltb 64 m) (length_padded a.networks a.length) ∙ right.0, padded_is a.networks a.length room right.1 ∙ sym right.2)
+module _ (w : World) (i : ℕ) (s : Local) (j : ℕ) (a : Announcement) where
+  -- one that is no path is of a bad length
+  pub bad_told : None ≡ networks_of a → hearing_fault w i s j (news (Announce a)) ≡ Some BadLength
+  bad_told e = first_of_first ((BadLength, bad_length (padded a.networks a.length)) ∷ []) rest BadLength (cond-true (bad_length (padded a.networks a.length)) (Some BadLength) None (bad a.networks a.length ∙ is a.length (take a.length a.networks) e))
     where
-      fits : (k : ℕ) (p q : List ℕ) → Some p ≡ cond (ltb 0 k && leb k 64) (Some q) None → ((eqb k 0 || ltb 64 k) ≡ false) × (k ≤ 64) × (p ≡ q)
-      fits k p q e = grind (arith, nat_tests)
+      rest : Checks Fault
+      rest = (NoSuchNetwork, not (below w.n (padded a.networks a.length))) ∷ (teller_checks w i s j a.block ++ way_checks w i j a.block (Some (path_over (padded a.networks a.length))))
 
--- an announcement that has a path, of networks that there are
-module _ (w : World) (i : ℕ) (s : Local) (j : ℕ) (a : Announcement) (p : List ℕ) (room : length a.networks ≡ 64) (has : Some p ≡ cond (ltb 0 a.length && leb a.length 64) (Some (take a.length a.networks)) None) (there : below w.n p ≡ true) where
-  long : bad a ≡ false
-  long = (a_path a p room has).0
+      is : (k : ℕ) (q : List ℕ) → None ≡ cond (ltb 0 k && leb k MOST_NETWORKS) (Some q) None → (eqb k 0 || ltb MOST_NETWORKS k) ≡ true
+      is k q e = grind (arith, nat_tests)
 
-  same : told_path a ≡ p
-  same = (a_path a p room has).1
+  module _ (p : List ℕ) (room : length a.networks ≡ MOST_NETWORKS) (has : Some p ≡ networks_of a) where
+    fits : (k : ℕ) (p q : List ℕ) → Some p ≡ cond (ltb 0 k && leb k MOST_NETWORKS) (Some q) None → ((eqb k 0 || ltb MOST_NETWORKS k) ≡ false) × (k ≤ MOST_NETWORKS) × (p ≡ q)
+    fits k p q e = grind (arith, nat_tests)
 
-  within : below w.n (told_path a) ≡ true
-  within = ap (below w.n) same ∙ there
+    parts : ((eqb a.length 0 || ltb MOST_NETWORKS a.length) ≡ false) × (a.length ≤ MOST_NETWORKS) × (p ≡ take a.length a.networks)
+    parts = fits a.length p (take a.length a.networks) has
 
-  abbrev has_fault : Fault → Bool
-  has_fault = hearing_has w i s j (announcement a)
+    same : padded a.networks a.length ≡ p
+    same = padded_is a.networks a.length room parts.1 ∙ sym parts.2
 
-  past_networks : told has_fault ≡ cond (leb w.n j) (Some NoSuchNetwork) (find has_fault (NoSuchBlock ∷ NotRelated ∷ LinkDown ∷ WrongStart ∷ WrongEnd ∷ Repeats ∷ NotPaid ∷ NoLink ∷ []))
-  past_networks = (λ x. cond (long x || false || false) (Some BadLength) (cond (not (within x) || false || leb w.n j) (Some NoSuchNetwork) (find has_fault (NoSuchBlock ∷ NotRelated ∷ LinkDown ∷ WrongStart ∷ WrongEnd ∷ Repeats ∷ NotPaid ∷ NoLink ∷ []))))
+    short : bad_length p ≡ false
+    short = ap bad_length (sym same) ∙ bad a.networks a.length ∙ parts.0
 
-  pub teller_told : (f : Fault) → told (teller_has w i s j a.block) ≡ Some f → hearing_fault w i s j (announcement a) ≡ Some f
-  teller_told f e = past_networks ∙ teller_first (leb w.n j) (leb w.blocks a.block) (not (related (w.rel i j))) (not (s.up j)) (find has_fault (WrongStart ∷ WrongEnd ∷ Repeats ∷ NotPaid ∷ NoLink ∷ [])) f e
+    pub checks_of : hearing_fault w i s j (news (Announce a)) ≡ first_fault (network_checks w.n (Some (path_over p)) ++ (teller_checks w i s j a.block ++ way_checks w i j a.block (Some (path_over p))))
+    checks_of = ap (λ xs. first_fault (hearing_checks w i s j (record { block = a.block; says = Some (path_over xs) }))) same
 
-  pub way_told : told (teller_has w i s j a.block) ≡ None → told (way_has w.rel i j (w.home a.block) p) ≡ hearing_fault w i s j (announcement a)
-  way_told e = (λ x. told (way_has w.rel i j (w.home a.block) (sym same x))) ∙ ap told (fun_ext each)
-    where
-      no_fault : (f : Fault) → teller_has w i s j a.block f ≡ false
-      no_fault = none_has (teller_has w i s j a.block) e
+    -- past how many and which networks there are
+    module _ (there : below w.n p ≡ true) where
+      past_networks : hearing_fault w i s j (news (Announce a)) ≡ first_fault (teller_checks w i s j a.block ++ way_checks w i j a.block (Some (path_over p)))
+      past_networks = checks_of ∙ first_of_second (network_checks w.n (Some (path_over p))) (teller_checks w i s j a.block ++ way_checks w i j a.block (Some (path_over p))) (none_told (network_checks w.n (Some (path_over p))) (short, (not_from_true _ there, tt)))
 
-      each : (f : Fault) → way_has w.rel i j (w.home a.block) (told_path a) f ≡ has_fault f
-      each BadLength = ap (λ b. b || false || false) (sym long)
-      each NoSuchNetwork = (λ x. not (sym within x) || false || sym (no_fault NoSuchNetwork) x)
-      each NoSuchBlock = sym (no_fault NoSuchBlock)
-      each NotRelated = sym (no_fault NotRelated)
-      each LinkDown = sym (no_fault LinkDown)
-      each WrongStart = or_none _
-      each WrongEnd = or_none _
-      each Repeats = or_none _
-      each NotPaid = or_none _
-      each NoLink = refl
+      pub teller_told : (f : Fault) → first_fault (teller_checks w i s j a.block) ≡ Some f → hearing_fault w i s j (news (Announce a)) ≡ Some f
+      teller_told f e = past_networks ∙ first_of_first (teller_checks w i s j a.block) (way_checks w i j a.block (Some (path_over p))) f e
 
-pub some_is : (b : Bool) (x y : ℕ) → Some x ≡ cond b (Some y) None → x ≡ y
-some_is true x y e = cc
-some_is false x y e = cc
+      pub way_told : first_fault (teller_checks w i s j a.block) ≡ None → first_fault (way_checks w i j a.block (Some (path_over p))) ≡ hearing_fault w i s j (news (Announce a))
+      way_told e = sym (past_networks ∙ first_of_second (teller_checks w i s j a.block) (way_checks w i j a.block (Some (path_over p))) e)

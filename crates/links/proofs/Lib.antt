@@ -1,6 +1,5 @@
 mod Scans
-mod Retelling
-mod Faults
+mod Exporting
+pub mod Faults
 pub mod Receiving
 pub mod Turning
-pub mod Holding

@@ -1,12 +1,5 @@
-pub mod World
-pub mod Paths
-pub mod Local
-pub mod Hearing
-pub mod Stable
-pub mod Packets
-pub mod Run
-pub mod Promise
+-- A router and its tables in the terms of the model, and what it answers when it hears and when a link turns.
 pub mod Held
 pub mod Answers
+pub mod Rules
 pub mod Made
-pub mod Laws

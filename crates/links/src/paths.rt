@@ -1,32 +1,37 @@
-// What is asked of a path before it is held.
+//! What is asked of a path before it is held.
 ghost use Rattle.std.specs.Prelude.{◌≡◌, ◌&&◌};
+ghost use Rattle.selection.specs.Worlds.{is_home_of};
 ghost use Rattle.relations.specs.Sound.{relation as relation_of};
-ghost use Rattle.links.specs.Paths.{allowed as allowed_by, begins as begins_by, below as below_by, ends as ends_by, repeats as repeats_by, valley_free};
+ghost use Rattle.model.specs.Paths.{allowed as allowed_by, begins as begins_by, below as below_by, ends, repeats as repeats_by, valley_free};
 
 use relations::{Relation, Relations};
+use selection::World;
 
-// Whether the first network of the path is `teller`.
+/// Whether the first network of the path is `teller`.
 pub fn begins(path: &[u8], teller: u8) -> bool
     ensures { result ≡ begins_by teller path.now }
 {
     path.first() == Some(&teller)
 }
 
-// Whether the last network of the path is `home`.
-pub fn ends(path: &[u8], home: u8) -> bool
-    ensures { result ≡ ends_by home path.now }
+/// Whether the last network of the path is a home of the block.
+pub fn ends_at_home(path: &[u8], world: World<'_>, block: u16) -> bool
+    ensures { result ≡ ends (is_home_of world.entry block) path.now }
 {
-    path.last() == Some(&home)
+    match path.last() {
+        Some(last) => world.is_home(block, *last),
+        None => false,
+    }
 }
 
-// Whether every network of the path is below `n`.
+/// Whether every network of the path is below `n`.
 pub fn below(path: &[u8], n: u8) -> bool
     ensures { result ≡ below_by n path.now }
 {
     path.iter().all(|network| *network < n)
 }
 
-// Whether the path names a network twice. A loop: a chain would need an index, or `successors`, which is not known to end.
+/// Whether the path names a network twice.
 pub fn repeats(path: &[u8]) -> bool
     ensures { result ≡ repeats_by path.now }
 {
@@ -51,7 +56,8 @@ fn allowed(climbing: bool, relation: Relation) -> bool
     }
 }
 
-// Whether the path is valley-free, seen from network `me`: up to providers, at most once over to a peer, down to customers.
+/// Whether the path is valley-free, seen from network `me`: up to providers, at most once over to a
+/// peer, down to customers.
 pub fn is_valley_free(relations: &Relations, me: u8, path: &[u8]) -> bool
     ensures { result ≡ valley_free (relation_of relations.now) me path.now }
 {

@@ -1,4 +1,4 @@
-// A router: one network's number, and which of its links are up.
+//! A router: one network's number, and which of its links are up.
 mod hearing;
 mod methods;
 mod reading;
@@ -6,8 +6,8 @@ mod turning;
 
 use selection::NetworkSet;
 
-// Relations and tables stay parameters of their own, and no struct holds both: callers have them apart (a `Network` its
-// tables, the `Simulation` the relations), so that one would be made for each call only to be taken apart.
+/// The small state of a router, handed back by each step; its tables, and what all networks share,
+/// are lent to it.
 #[derive(Clone, Copy)]
 pub struct Router {
     number: u8,

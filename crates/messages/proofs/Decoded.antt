@@ -3,10 +3,9 @@ use Rattle.std.proofs.Common.{◌≡◌, ℕ, ◌+◌, ◌*◌, ◌/◌, ◌%◌
 use Rattle.std.proofs.lemmas.List.{length-take-le, take-append-drop, drop-drop}
 use Rattle.std.proofs.lemmas.Bool.{cond-true, eqb-true, or_cases}
 use Rattle.std.proofs.lemmas.Bool.Decides.{nat_tests}
-use Rattle.blocks.specs.Encoding.{address_bytes}
-use Rattle.text.specs.Dotted.{byte0, byte1, byte2, byte3}
-use Rattle.messages.specs.Places.{network, kind, block, address, path_length, path, standing, fits, way_extent, extent_by, extent}
-use Rattle.messages.specs.Faults.{told, message_has}
+use Rattle.text.specs.Dotted.{address_bytes, byte0, byte1, byte2, byte3}
+use Rattle.messages.specs.Places.{network, kind, block, address, path_length, path, link_state, fits, way_extent, extent_by, extent}
+use Rattle.messages.specs.Faults.{fault}
 use Rattle.messages.specs.Reading.{thing_by, message_in}
 use Rattle.messages.specs.Encoding.{bytes_of}
 use Rattle.messages.specs.Laws.{Bytes, Written}
@@ -16,12 +15,12 @@ pub record Sound (bs : List ℕ) : Type 0 where
   pub whole : extent bs ≤ length bs
   pub known : (eqb (kind bs) 1 || eqb (kind bs) 2 || eqb (kind bs) 3 || eqb (kind bs) 4) ≡ true
   pub fit : kind bs ≡ 1 → fits (path_length bs) ≡ true
-  pub stands : kind bs ≡ 4 → (eqb (standing bs) 0 || eqb (standing bs) 1) ≡ true
+  pub stands : kind bs ≡ 4 → (eqb (link_state bs) 0 || eqb (link_state bs) 1) ≡ true
 
 pub extent_least : (k l : ℕ) → 2 ≤ extent_by k l
 extent_least k l = grind (arith, nat_tests)
 
-pub sound : (bs : List ℕ) → told (message_has bs) ≡ None → Sound bs
+pub sound : (bs : List ℕ) → fault bs ≡ None → Sound bs
 sound bs e =
     let least = extent_least (kind bs) (path_length bs) in
     record {
@@ -75,8 +74,8 @@ address_back a b c d p q r s =
     let e3 : d ≡ byte3 w = omega arith in
     λ i. e0 i ∷ e1 i ∷ e2 i ∷ e3 i ∷ []
 
-standing_back : (s : ℕ) → (eqb s 0 || eqb s 1) ≡ true → s ≡ cond (eqb s 1) 1 0
-standing_back s e = grind (arith, nat_tests)
+state_back : (s : ℕ) → (eqb s 0 || eqb s 1) ≡ true → s ≡ cond (eqb s 1) 1 0
+state_back s e = grind (arith, nat_tests)
 
 module _ (bs : List ℕ) (small : Bytes bs) (s : Sound bs) where
   abbrev Back : Type 0
@@ -118,7 +117,7 @@ module _ (bs : List ℕ) (small : Bytes bs) (s : Sound bs) where
   turned : kind bs ≡ 4 → BackBy 4
   turned e =
       four bs (long 4 e) ∙
-      (λ i. get_or bs 0 0 ∷ e i ∷ get_or bs 2 0 ∷ standing_back (get_or bs 3 0) (s.stands e) i ∷ drop 4 bs)
+      (λ i. get_or bs 0 0 ∷ e i ∷ get_or bs 2 0 ∷ state_back (get_or bs 3 0) (s.stands e) i ∷ drop 4 bs)
 
   pub back : Back
   back = ⊎_elim (λ e. as_kind 1 e (way e)) (⊎_elim (λ e. as_kind 2 e (withdrawal e)) (⊎_elim (λ e. as_kind 3 e (carried e)) (λ e. as_kind 4 e (turned e)))) (kinds (kind bs) s.known)

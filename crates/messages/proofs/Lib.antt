@@ -1,6 +1,7 @@
 mod Paths
-mod Sizes
+pub mod Sizes
 mod Decoded
+mod Lowest
 pub mod Encoded
 pub mod Back
 pub mod Streams

@@ -1,14 +1,14 @@
 -- Reading and writing messages undo each other. Assumes nothing.
-use Rattle.std.specs.Prelude.{◌≡◌, ℕ, ◌<◌, ◌^◌, true, List, [], ◌++◌, length, Ok, None, slice_index}
+use Rattle.std.specs.Prelude.{◌≡◌, ℕ, ◌<◌, true, List, [], ◌++◌, length, Ok, None, slice_index}
 use Rattle.std.specs.List.{AllByRecursion}
-use Rattle.messages.specs.Meaning.{Message, Thing, update, packet, turn}
+use Rattle.messages.specs.Meaning.{IsAddress, Message, Thing, update, packet, turn}
 use Rattle.messages.specs.Reading.{ended, before, onward, message_at, messages_in}
 use Rattle.messages.specs.Encoding.{has_bytes, bytes_of, stream_of}
 
 -- an address of 32 bits
 abbrev pub Addressed : Thing → Type 0
 Addressed (update u) = Unit {0}
-Addressed (packet p) = p.address < 2 ^ 32
+Addressed (packet p) = IsAddress p.address
 Addressed (turn other up) = Unit {0}
 
 -- a message that has bytes: if it tells a path, one of 1 to 64 networks
@@ -26,7 +26,8 @@ WrittenReads = (m : Message) (rest : List ℕ) → Written m → message_at (byt
 
 -- what is read writes back as the same bytes
 abbrev pub ReadWrites : Type 0
-ReadWrites = (bs : List ℕ) (m : Message) (rest : List ℕ) → Bytes bs → message_at bs ≡ Ok (m, rest) → bs ≡ bytes_of m ++ rest
+ReadWrites =
+    (bs : List ℕ) (m : Message) (rest : List ℕ) → Bytes bs → message_at bs ≡ Ok (m, rest) → bs ≡ bytes_of m ++ rest
 
 -- what is read has bytes
 abbrev pub ReadHasBytes : Type 0
@@ -43,7 +44,9 @@ pub record ReadOn : Type 0 where
 
 -- messages that are written one after the other read back as they are, and then what stands behind them
 abbrev pub StreamReads : Type 0
-StreamReads = (ms : List Message) (rest : List ℕ) → AllByRecursion Written ms → messages_in (stream_of ms ++ rest) ≡ before ms (messages_in rest)
+StreamReads =
+    (ms : List Message) (rest : List ℕ) → AllByRecursion Written ms →
+    messages_in (stream_of ms ++ rest) ≡ before ms (messages_in rest)
 
 -- a stream that is read to its end is the messages that it says, written one after the other
 abbrev pub StreamWrites : Type 0

@@ -1,8 +1,12 @@
 pub mod Kinds
 pub mod Meaning
+pub mod Values
 pub mod Words
 pub mod Places
 pub mod Faults
+pub mod Lowest
 pub mod Reading
 pub mod Encoding
+pub mod Parts
+pub mod Writing
 pub mod Laws

@@ -1,11 +1,8 @@
 -- What a message says: of which network, and what. Assumes nothing.
-use Rattle.std.specs.Prelude.{ℕ, Bool}
-use Rattle.links.specs.Local.{Update}
-use Rattle.links.specs.Packets.{Packet}
-use Rattle.links.specs.Held.{news}
-use Rattle.forwarding.specs.Passing.{packet_of}
-use Rattle.messages.specs.declared.message as program
-use Rattle.messages.specs.declared.message.Thing.TheVariants as kind
+use Rattle.std.specs.Prelude.{ℕ, ◌<◌, ◌^◌, Bool}
+use Rattle.model.specs.Selection.{Said}
+use Rattle.model.specs.Local.{Update}
+use Rattle.model.specs.Packets.{Packet}
 
 -- an update, a packet, or a link of two networks that turns: the other end, and whether it is up
 pub data Thing : Type 0 where
@@ -18,11 +15,14 @@ pub record Message : Type 0 where
   pub network : ℕ
   pub thing : Thing
 
--- what those of the program say
-abbrev pub thing_of : program.Thing.Thing → Thing
-thing_of (kind.Update u) = update (news u)
-thing_of (kind.Packet p) = packet (packet_of p)
-thing_of (kind.Turn other up) = turn other up
+-- what is said of a block, to a network or from it
+abbrev pub update_message : ℕ → ℕ → Said → Message
+update_message network block says = record { network = network; thing = update (record { block = block; says = says }) }
 
-abbrev pub message_of : program.Message.Message → Message
-message_of m = record { network = m.network; thing = thing_of m.thing }
+-- a packet, to a network or from it
+abbrev pub packet_message : ℕ → Packet → Message
+packet_message network p = record { network = network; thing = packet p }
+
+-- an address has 32 bits
+abbrev pub IsAddress : ℕ → Type 0
+IsAddress address = address < 2 ^ 32

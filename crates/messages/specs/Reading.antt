@@ -1,14 +1,11 @@
 -- What is read at the front of any bytes, and of a whole stream of messages. Assumes nothing.
-use Rattle.std.specs.Prelude.{◌≡◌, ℕ, zero, suc, ◌-◌, cond, List, [], ◌∷◌, ◌++◌, length, drop, replicate, Some, None, Ok, Err, Option, Result, ◌==◌}
-use Rattle.links.specs.Local.{Said}
-use Rattle.advertisement.specs.declared.update.Update.{Update}
-use Rattle.advertisement.specs.declared.update.Update.TheVariants.{Announce, Withdraw}
+use Rattle.std.specs.Prelude.{ℕ, zero, suc, cond, List, [], ◌∷◌, ◌++◌, length, drop, Some, None, Ok, Err, Option, Result, ◌==◌}
+use Rattle.model.specs.Paths.{path_over}
+use Rattle.model.specs.Selection.{Said}
 use Rattle.messages.specs.declared.cause.Cause.{Cause}
-use Rattle.messages.specs.declared.message as program
-use Rattle.messages.specs.declared.message.Thing.TheVariants as variant
 use Rattle.messages.specs.Meaning.{Message, Thing, update, packet, turn}
-use Rattle.messages.specs.Places.{network, kind, block, path, address, hops, other, standing, extent}
-use Rattle.messages.specs.Faults.{told, message_has}
+use Rattle.messages.specs.Places.{network, kind, block, path, address, hops, other, link_state, extent}
+use Rattle.messages.specs.Faults.{fault}
 
 -- an update of the block that stands there
 abbrev pub update_in : List ℕ → Said → Thing
@@ -16,7 +13,11 @@ update_in bs says = update (record { block = block bs; says = says })
 
 -- what the bytes say as a thing of a kind
 abbrev pub thing_by : ℕ → List ℕ → Thing
-thing_by kind bs = cond (kind == 1) (update_in bs (Some (path bs))) (cond (kind == 2) (update_in bs None) (cond (kind == 3) (packet (record { address = address bs; hops = hops bs })) (turn (other bs) (standing bs == 1))))
+thing_by kind bs =
+    cond (kind == 1) (update_in bs (Some (path_over (path bs))))
+    (cond (kind == 2) (update_in bs None)
+    (cond (kind == 3) (packet (record { address = address bs; hops = hops bs }))
+    (turn (other bs) (link_state bs == 1))))
 
 abbrev pub thing_in : List ℕ → Thing
 thing_in bs = thing_by (kind bs) bs
@@ -31,7 +32,7 @@ answer (Some cause) bs = Err cause
 
 -- the message that stands at the front of any bytes and what is left, or its fault
 abbrev pub message_at : List ℕ → Result (Message × List ℕ) Cause
-message_at bs = answer (told (message_has bs)) bs
+message_at bs = answer (fault bs) bs
 
 -- what a stream says: messages to its end, or to the first that has a fault
 pub record Stream : Type 0 where
@@ -60,13 +61,3 @@ messages_within (suc most) (b ∷ bs) = onward (messages_within most) (message_a
 -- what a stream says: each message takes a byte at least, so there are no more of them than bytes
 abbrev pub messages_in : List ℕ → Stream
 messages_in bs = messages_within (length bs) bs
-
--- past its length an announcement that is read has zeros
-abbrev pub ZeroedUpdate : Update → Type 0
-ZeroedUpdate (Announce a) = drop a.length a.networks ≡ replicate (64 - a.length) 0
-ZeroedUpdate (Withdraw block) = Unit {0}
-
-abbrev pub Zeroed : program.Thing.Thing → Type 0
-Zeroed (variant.Update u) = ZeroedUpdate u
-Zeroed (variant.Packet p) = Unit {0}
-Zeroed (variant.Turn other up) = Unit {0}

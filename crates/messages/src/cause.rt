@@ -5,17 +5,17 @@ ghost use Rattle.messages.specs.Words.{cause_words, number};
 use std::fmt;
 use text::Numbered;
 
-// What is wrong with the message at the front of the bytes. Of several the first in this order is told.
+/// What is wrong with the message at the front of the bytes. Of several the first in this order is told.
 #[derive(Clone, Copy, Debug, PartialEq, Eq)]
 pub enum Cause {
-    // the kind is none of 1 to 4
+    /// the kind is none of 1 to 4
     UnknownKind,
-    // the bytes end within the message
+    /// the bytes end within the message
     Cut,
-    // a path of no network, or of more than 64
+    /// a path of no network, or of more than 64
     BadLength,
-    // a link that is said to be neither up nor down
-    BadStanding,
+    /// a link that is said to be neither up nor down
+    NeitherUpNorDown,
 }
 
 impl Numbered for Cause {
@@ -34,7 +34,7 @@ impl fmt::Display for Cause {
             Cause::UnknownKind => "unknown kind",
             Cause::Cut => "bad length: cut short",
             Cause::BadLength => "bad length: 0 or above 64 networks",
-            Cause::BadStanding => "a line neither up nor down",
+            Cause::NeitherUpNorDown => "a line neither up nor down",
         })
     }
 }

@@ -1,28 +1,28 @@
 // Reading a message.
-ghost use Rattle.std.specs.Prelude.{◌≡◌, ◌+◌, ◌-◌, ◌<◌, ◌≤◌, ◌++◌, ◌==◌, length, drop, replicate, take, None, Some, IfOk, MatchOption, MatchResult};
+ghost use Rattle.std.specs.Prelude.{◌≡◌, ◌+◌, ◌≤◌, length, drop, Ok, Err, IfErr, IfOk};
 ghost use Rattle.wire.specs.Reading.{input, place};
 ghost use Rattle.messages.specs.Encoding.{bytes_of};
-ghost use Rattle.messages.specs.Faults.{message_has, told};
+ghost use Rattle.messages.specs.Lowest.{TellsLowest};
 ghost use Rattle.messages.specs.Kinds.{number};
-ghost use Rattle.messages.specs.Meaning.{message_of, thing_of};
-ghost use Rattle.messages.specs.Places.{address, block, hops, kind as kind_in, other, path, path_length, standing};
-ghost use Rattle.messages.specs.Reading.{Zeroed, message_at, message_in, thing_in};
+ghost use Rattle.messages.specs.Parts.{IsMessage, IsPacket, IsPathAt, IsThing, IsTurn, IsWay, ReadAs};
+ghost use Rattle.messages.specs.Places.{block, kind as kind_in, most_networks};
+ghost use Rattle.messages.specs.Reading.{message_at};
+ghost use Rattle.messages.specs.Values.{Zeroed, message_of};
 
 use crate::cause::Cause;
 use crate::kind::Kind;
-use crate::message::{Message, Thing};
+use crate::message::{Message, Thing, path_fits};
 use advertisement::{Announcement, Update};
 use forwarding::Packet;
-use relations::MOST;
 use text::Address;
 use wire::Reader;
 
 // The networks of a path, and zeros past them.
 fn read_path(reader: &mut Reader, networks: u8) -> Option<[u8; 64]>
-    requires few { networks ≤ 64 }
+    requires few { networks ≤ most_networks }
     requires there { place reader.old ≤ length (input reader.old) }
     ensures source { input reader.new ≡ input reader.old }
-    ensures cases { MatchOption result (length (input reader.old) < place reader.old + networks) (λ path. (place reader.old + networks ≤ length (input reader.old)) × (path ≡ take networks (drop (place reader.old) (input reader.old)) ++ replicate (64 - networks) 0)) }
+    ensures path { IsPathAt (input reader.old) (place reader.old) networks result }
 {
     let mut path = [0; 64];
     for k in 0..networks {
@@ -37,7 +37,7 @@ fn read_way(reader: &mut Reader) -> Result<Announcement, Cause>
     requires start { place reader.old ≡ 2 }
     requires kind { kind_in (input reader.old) ≡ number Kind.Way }
     requires there { 2 ≤ length (input reader.old) }
-    ensures cases { MatchResult result (λ way. (told (message_has (input reader.old)) ≡ None) × (way.block ≡ block (input reader.old)) × (way.length ≡ path_length (input reader.old)) × (way.networks ≡ path (input reader.old) ++ replicate (64 - way.length) 0)) (λ cause. told (message_has (input reader.old)) ≡ Some cause) }
+    ensures { ReadAs (IsWay (input reader.old)) (input reader.old) result }
 {
     let Some(block) = reader.word() else {
         return Err(Cause::Cut);
@@ -45,7 +45,7 @@ fn read_way(reader: &mut Reader) -> Result<Announcement, Cause>
     let Some(length) = reader.byte() else {
         return Err(Cause::Cut);
     };
-    if length == 0 || length > MOST {
+    if !path_fits(usize::from(length)) {
         return Err(Cause::BadLength);
     }
     let Some(networks) = read_path(reader, length) else {
@@ -63,7 +63,7 @@ fn read_withdrawal(reader: &mut Reader) -> Result<u16, Cause>
     requires start { place reader.old ≡ 2 }
     requires kind { kind_in (input reader.old) ≡ number Kind.Withdrawal }
     requires there { 2 ≤ length (input reader.old) }
-    ensures { MatchResult result (λ b. (told (message_has (input reader.old)) ≡ None) × (b ≡ block (input reader.old))) (λ cause. told (message_has (input reader.old)) ≡ Some cause) }
+    ensures { ReadAs (λ b. b ≡ block (input reader.old)) (input reader.old) result }
 {
     let Some(block) = reader.word() else {
         return Err(Cause::Cut);
@@ -76,7 +76,7 @@ fn read_packet(reader: &mut Reader) -> Result<Packet, Cause>
     requires start { place reader.old ≡ 2 }
     requires kind { kind_in (input reader.old) ≡ number Kind.Packet }
     requires there { 2 ≤ length (input reader.old) }
-    ensures { MatchResult result (λ p. (told (message_has (input reader.old)) ≡ None) × (p.address.0 ≡ address (input reader.old)) × (p.hops ≡ hops (input reader.old))) (λ cause. told (message_has (input reader.old)) ≡ Some cause) }
+    ensures { ReadAs (IsPacket (input reader.old)) (input reader.old) result }
 {
     let Some(address) = reader.long() else {
         return Err(Cause::Cut);
@@ -95,25 +95,25 @@ fn read_turn(reader: &mut Reader) -> Result<(u8, bool), Cause>
     requires start { place reader.old ≡ 2 }
     requires kind { kind_in (input reader.old) ≡ number Kind.Turn }
     requires there { 2 ≤ length (input reader.old) }
-    ensures { MatchResult result (λ t. (told (message_has (input reader.old)) ≡ None) × (t.0 ≡ other (input reader.old)) × (t.1 ≡ (standing (input reader.old) == 1))) (λ cause. told (message_has (input reader.old)) ≡ Some cause) }
+    ensures { ReadAs (IsTurn (input reader.old)) (input reader.old) result }
 {
     let Some(other) = reader.byte() else {
         return Err(Cause::Cut);
     };
-    let Some(standing) = reader.byte() else {
+    let Some(state) = reader.byte() else {
         return Err(Cause::Cut);
     };
-    match standing {
+    match state {
         0 => Ok((other, false)),
         1 => Ok((other, true)),
-        _ => Err(Cause::BadStanding),
+        _ => Err(Cause::NeitherUpNorDown),
     }
 }
 
 // A thing, after its network.
 fn read_thing(reader: &mut Reader) -> Result<Thing, Cause>
     requires start { place reader.old ≡ 1 }
-    ensures cases { MatchResult result (λ thing. (told (message_has (input reader.old)) ≡ None) × (thing_of thing ≡ thing_in (input reader.old)) × Zeroed thing) (λ cause. told (message_has (input reader.old)) ≡ Some cause) }
+    ensures { ReadAs (IsThing (input reader.old)) (input reader.old) result }
 {
     let Some(kind) = reader.byte() else {
         return Err(Cause::Cut);
@@ -131,7 +131,7 @@ fn read_thing(reader: &mut Reader) -> Result<Thing, Cause>
 
 // A message, at the front of the bytes.
 fn read_message(bytes: &[u8]) -> Result<Message, Cause>
-    ensures cases { MatchResult result (λ m. (told (message_has bytes.now) ≡ None) × (message_of m ≡ message_in bytes.now) × Zeroed m.thing) (λ cause. told (message_has bytes.now) ≡ Some cause) }
+    ensures { ReadAs (IsMessage bytes.now) bytes.now result }
 {
     let mut reader = Reader::new(bytes);
     let Some(network) = reader.byte() else {
@@ -149,11 +149,14 @@ fn behind<'a>(bytes: &'a [u8], message: &Message) -> &'a [u8]
     &bytes[message.size()..]
 }
 
-// The message at the front of the bytes, and what is left behind it.
-#[tactic(auto, using(crate::proofs::Back::read_is))]
+/// The message at the front of the bytes, and what is left behind it; or the first in their order of the causes why there is
+/// none. Past its length the array of an announcement holds zeros.
+#[tactic(auto, using(crate::proofs::Back::read_is, crate::proofs::Lowest::clean_lowest, crate::proofs::Lowest::cause_lowest))]
 pub fn read(bytes: &[u8]) -> Result<(Message, &[u8]), Cause>
-    ensures cases { MatchResult result (λ read. message_at bytes.now ≡ Ok (message_of read.0, read.1.now)) (λ cause. message_at bytes.now ≡ Err cause) }
+    ensures ok { IfOk result (λ read. message_at bytes.now ≡ Ok (message_of read.0, read.1.now)) }
+    ensures err { IfErr result (λ cause. message_at bytes.now ≡ Err cause) }
     ensures zeros { IfOk result (λ read. Zeroed read.0.thing) }
+    ensures lowest { TellsLowest bytes.now result }
 {
     let message = read_message(bytes)?;
     let rest = behind(bytes, &message);

@@ -1,7 +1,6 @@
 // The kinds of messages, and their bytes.
-ghost use Rattle.std.specs.Prelude.{◌≡◌, ◌≢◌, MatchResult};
-ghost use Rattle.messages.specs.Kinds.{number};
-ghost use Rattle.messages.specs.declared.cause.Cause.TheVariants.{UnknownKind};
+ghost use Rattle.std.specs.Prelude.{◌≡◌};
+ghost use Rattle.messages.specs.Kinds.{IsKindOf, number};
 
 use crate::cause::Cause;
 
@@ -19,7 +18,7 @@ pub(crate) enum Kind {
 impl TryFrom<u8> for Kind {
     type Error = Cause;
 
-    ghost try_from_gives = { λ byte r. MatchResult r (λ kind. byte ≡ number kind) (λ cause. (cause ≡ UnknownKind) × (byte ≢ 1) × (byte ≢ 2) × (byte ≢ 3) × (byte ≢ 4)) };
+    ghost try_from_gives = { λ byte r. IsKindOf byte r };
 
     fn try_from(byte: u8) -> Result<Kind, Cause> {
         match byte {

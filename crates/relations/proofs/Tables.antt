@@ -4,11 +4,12 @@ use lib.ListN.{length-replicate}
 use Rattle.std.proofs.lemmas.List.{get_or-set_same, get_or-set_other, get_or-replicate, get_or_past, get_or_default}
 use Rattle.std.proofs.lemmas.Bool.{cases_eq, cases_lt, cond-true, cond-false, eq-eqb, ne_eqb}
 use Rattle.std.proofs.lemmas.Bool.Decides.{nat_tests}
-use Rattle.relations.specs.Between.{Between, Mutual, Apart, Wide, Within, between, opposite, with_pair}
+use Rattle.model.specs.Relations.{Between, Mutual, Apart, Within, opposite}
+use Rattle.relations.specs.Between.{Wide, between, with_pair}
 use Rattle.relations.specs.Table.{count, rel}
 use Rattle.relations.specs.declared.matrix.Matrix.{Matrix}
-use Rattle.relations.specs.declared.relation.Relation.{Relation}
-use Rattle.relations.specs.declared.relation.Relation.TheVariants.{Unrelated, Customer, Peer, Provider}
+use Rattle.model.specs.declared.relation.Relation.{Relation}
+use Rattle.model.specs.declared.relation.Relation.TheVariants.{Unrelated, Customer, Peer, Provider}
 
 pub get_or_set : {X : Type 0} (l : List X) (p q : ℕ) (v d : X) → p < length l → get_or (set l p v) q d ≡ cond (eqb q p) v (get_or l q d)
 get_or_set l p q v d h =

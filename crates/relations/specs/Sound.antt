@@ -1,6 +1,6 @@
 -- What sound relations hold. Assumes nothing.
 use Rattle.std.specs.Prelude.{ℕ}
-use Rattle.relations.specs.Between.{Between}
+use Rattle.model.specs.Relations.{Between}
 use Rattle.relations.specs.Table.{count, rel}
 use Rattle.relations.specs.declared.sound.Relations.{Relations}
 

@@ -1,6 +1,7 @@
 -- What a table of relations holds. Assumes nothing.
 use Rattle.std.specs.Prelude.{ℕ, vec_items, vec_len}
-use Rattle.relations.specs.Between.{Between, between}
+use Rattle.model.specs.Relations.{Between}
+use Rattle.relations.specs.Between.{between}
 use Rattle.relations.specs.declared.matrix.Matrix.{Matrix}
 
 -- how many networks there are

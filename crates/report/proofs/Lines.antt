@@ -1,19 +1,21 @@
--- The lines of the networks, one line on. Assumes nothing.
+-- The lines of the networks, one line on.
 use Rattle.std.proofs.Common.{◌≡◌, ℕ, suc, ◌+◌, ◌<◌, ◌≤◌, ◌&&◌, ltb, List, ◌++◌, MatchOption, Some, Option, ap, ◌∙◌, subst, sym, arith}
 use Rattle.std.proofs.lemmas.Bool.{and_from, cond-true, lt-ltb}
-use Rattle.selection.specs.Choosing.{Choice, nothing}
-use Rattle.links.specs.Local.{choice, gather}
-use Rattle.links.specs.Run.{State}
-use Rattle.links.specs.World.{World}
+use Rattle.model.specs.Selection.{Choice, nothing}
+use Rattle.model.specs.Local.{choice}
+use Rattle.model.specs.Lists.{gather}
+use Rattle.model.specs.Run.{State}
+use Rattle.model.specs.World.{World}
 use Rattle.simulation.specs.Shown.{goes_by}
-use Rattle.simulation.specs.Simulated.{Shows, world_of}
+use Rattle.simulation.specs.Simulated.{blocks_of, world_of}
+use Rattle.blocks.specs.Shown.{IsBlockAt}
 use Rattle.simulation.specs.declared.simulation.Simulation.{Simulation}
 use Rattle.blocks.specs.declared.block_list.Block.{Block}
 use Rattle.routes.specs.Lines.{route_words}
 
 -- a block that is answered is one that there is, as the list has it
-pub shown : (x : Simulation) (b : ℕ) (block : Block) (r : Option Block) → MatchOption r ((world_of x).blocks ≤ b) (Shows x b) → r ≡ Some block → Shows x b block
-shown x b block r m is = subst (λ o. MatchOption o ((world_of x).blocks ≤ b) (Shows x b)) is m
+pub shown : (x : Simulation) (b : ℕ) (block : Block) (r : Option Block) → MatchOption r ((world_of x).blocks ≤ b) (IsBlockAt (blocks_of x) b) → r ≡ Some block → IsBlockAt (blocks_of x) b block
+shown x b block r m is = subst (λ o. MatchOption o ((world_of x).blocks ≤ b) (IsBlockAt (blocks_of x) b)) is m
 
 module _ (w : World) (s : State) (b : ℕ) where
   abbrev line : ℕ → List ℕ

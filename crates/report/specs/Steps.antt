@@ -1,4 +1,4 @@
--- The words in which a step that is not played is told. Assumes nothing.
+-- The words in which a step that is not played is told.
 use Rattle.std.specs.Prelude.{ℕ, List, ◌++◌, codes}
 use Rattle.script.specs.Words.{fault_words, line_words}
 use Rattle.simulation.specs.Shown.{cause_words, number}

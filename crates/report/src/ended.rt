@@ -1,27 +1,27 @@
-// The end of a packet.
+//! The end of a packet.
 ghost use Rattle.std.specs.Prelude.{Some};
-ghost use Rattle.report.specs.Endings.{end_words, why_words};
+ghost use Rattle.report.specs.Endings.{end_words, reason_words};
 
-use forwarding::{Ending, Fate, Why};
+use forwarding::{DropReason, Ending, Fate};
 use std::fmt;
 
 // Why a packet was dropped, in the villages' words.
 #[derive(Clone, Copy)]
-struct Reason(Why);
+struct Reason(DropReason);
 
 impl fmt::Display for Reason {
-    ghost output = { λ reason. Some (why_words reason.0) };
+    ghost output = { λ reason. Some (reason_words reason.0) };
 
     fn fmt<W: fmt::Write>(&self, f: &mut fmt::Formatter<W>) -> fmt::Result {
         f.write_str(match self.0 {
-            Why::NoBlock => "no block",
-            Why::NoRoute => "no road",
-            Why::NoHops => "no step left",
+            DropReason::NoBlock => "no block",
+            DropReason::NoRoute => "no road",
+            DropReason::NoHops => "no step left",
         })
     }
 }
 
-// The line that tells how a packet ended.
+/// The line that tells how a packet ended.
 #[derive(Clone, Copy, Debug)]
 pub struct Ended(pub Ending);
 
@@ -40,8 +40,8 @@ impl fmt::Display for Ended {
                 f,
                 "packet to {address}: arrived at {network}, steps {steps}"
             ),
-            Fate::Dropped(why) => {
-                let reason = Reason(why);
+            Fate::Dropped(reason) => {
+                let reason = Reason(reason);
                 writeln!(
                     f,
                     "packet to {address}: dropped at {network}, steps {steps}, {reason}"

@@ -1,7 +1,7 @@
-// Commands are played.
-ghost use Rattle.std.specs.Prelude.{◌≡◌, ◌<◌, ◌++◌, IsOk, MatchResult, vec_capacity, vec_len};
+//! Commands are played.
+ghost use Rattle.std.specs.Prelude.{◌≡◌, ◌<◌, ◌++◌, IsOk, vec_capacity, vec_len};
 ghost use Rattle.simulation.specs.Simulated.{world_of};
-ghost use Rattle.report.specs.Playing.{Done, NotDone, one_or_none};
+ghost use Rattle.report.specs.Playing.{Plays, SameBlocks, one_or_none};
 
 use forwarding::Ending;
 use script::Command;
@@ -20,20 +20,21 @@ fn put(endings: &mut Vec<Ending>, ending: Option<Ending>) -> Result<(), AllocErr
     Ok(())
 }
 
-// Does what a command asks, and puts the ends of packets that ended behind the others. Showing changes nothing, and `Shown`
-// has its text. Room for an end is made before a step, since the end would be lost where memory ends after it.
+/// Does what a command asks, and puts the ends of packets that ended behind the others. Showing changes nothing, and
+/// `Shown` has its text.
 pub fn play(
     simulation: &mut Simulation,
     command: Command,
     endings: &mut Vec<Ending>,
 ) -> Result<(), Refusal>
     ensures world { world_of simulation.new ≡ world_of simulation.old }
-    ensures blocks { simulation.new.blocks ≡ simulation.old.blocks }
-    ensures played { MatchResult result (λ _. Done command simulation.old simulation.new endings.old.items endings.new.items) (NotDone command simulation.old simulation.new endings.old.items endings.new.items) }
+    ensures blocks { SameBlocks simulation.old simulation.new }
+    ensures played { Plays command simulation.old simulation.new endings.old endings.new result }
 {
     match command {
         Command::Turn { first, second, up } => simulation.turn(first, second, up),
         Command::Hear { from, to } => {
+            // where memory ended after the step, the end would be lost
             endings.reserve(1)?;
             Ok(put(endings, simulation.hear(from, to)?)?)
         }

@@ -1,4 +1,4 @@
-// A line that is not played.
+//! A line that is not played.
 ghost use Rattle.std.specs.Prelude.{Some};
 ghost use Rattle.report.specs.Steps.{step_words};
 
@@ -7,10 +7,12 @@ use simulation::Refusal;
 use std::fmt;
 use text::Fault;
 
-// What is told of a line that is not played.
+/// What is told of a line that is not played.
 #[derive(Clone, Copy, Debug)]
 pub struct StepFault {
+    /// Why it is not played.
     pub refusal: Refusal,
+    /// The line of the script, counted from 1.
     pub line: usize,
 }
 

@@ -1,4 +1,4 @@
-// Examples of what a router does, each proved to end and then run.
+//! Examples of what a router does, each proved to end and then run.
 #![tactic(auto)]
 
 #[cfg(test)]

@@ -1,7 +1,8 @@
-// Packets at the router of `routing`: the addresses from 10 to 19 are block 0, at home at 0, and 20 is block 1, at home at 3.
-use crate::routing::{started, tables, ties, update};
+//! Packets at the router of `routing`: the addresses from 10 to 19 are block 0, at home at 0, and 20 is block 1, at home
+//! at 3.
+use crate::routing::{started, tables, ties, update, world};
 use blocks::{Block, BlockList, Unfit};
-use forwarding::{Fate, Forwarding, Packet, Passed, Why};
+use forwarding::{DropReason, Fate, Forwarded, Forwarding, Packet};
 use links::Fault;
 use std::test::Fail;
 use text::Address;
@@ -41,34 +42,35 @@ fn addresses_in_blocks(rt: HostRuntime) -> Result<(), Fail> {
 }
 
 // To which neighbour a packet is handed, and with how many hops left.
-fn handed(passed: Passed) -> Option<(u8, u8)> {
-    match passed {
-        Passed::Handed { neighbour, packet } => Some((neighbour, packet.hops)),
-        Passed::Arrived | Passed::Dropped(_) => None,
+fn handed(forwarded: Forwarded) -> Option<(u8, u8)> {
+    match forwarded {
+        Forwarded::Handed { neighbour, packet } => Some((neighbour, packet.hops)),
+        Forwarded::Arrived | Forwarded::Dropped(_) => None,
     }
 }
 
 #[test]
 fn packets_by_the_route(rt: HostRuntime) -> Result<(), Fail> {
-    let (ties, mut tables) = (ties(rt)?, tables(rt)?);
-    let router = started(&ties, &mut tables);
-    let (router, _) = router.hear(&ties, &mut tables, 0, update(0, &[0]));
+    let ties = ties(rt)?;
+    let (world, mut tables) = (world(&ties), tables(rt)?);
+    let router = started(world, &mut tables);
+    let (router, _) = router.hear(world, &mut tables, 0, update(0, &[0]));
     let list = blocks(rt)?;
     let blocks = list.blocks();
     let packet = Packet::new(Address(19));
-    let sent = router.send(&ties, &tables, &blocks, packet);
+    let sent = router.send(world, &tables, &blocks, packet);
     assert_eq!(rt; handed(sent), Some((0, 254)));
     let spent = Packet { hops: 0, ..packet };
-    let passed = router.forward(&ties, &tables, &blocks, 2, spent)?;
-    assert!(rt; matches!(passed, Passed::Dropped(Why::NoHops)));
-    let ending = spent.ending(1, passed).ok_or("no end")?;
+    let forwarded = router.forward(world, &tables, &blocks, 2, spent)?;
+    assert!(rt; matches!(forwarded, Forwarded::Dropped(DropReason::NoHops)));
+    let ending = spent.ending(1, forwarded).ok_or("no end")?;
     assert_eq!(rt;
         (ending.steps, ending.fate),
-        (255, Fate::Dropped(Why::NoHops))
+        (255, Fate::Dropped(DropReason::NoHops))
     );
-    let elsewhere = router.send(&ties, &tables, &blocks, Packet::new(Address(20)));
-    assert!(rt; matches!(elsewhere, Passed::Dropped(Why::NoRoute)));
-    let refused = router.forward(&ties, &tables, &blocks, 1, packet).err();
+    let elsewhere = router.send(world, &tables, &blocks, Packet::new(Address(20)));
+    assert!(rt; matches!(elsewhere, Forwarded::Dropped(DropReason::NoRoute)));
+    let refused = router.forward(world, &tables, &blocks, 1, packet).err();
     assert_eq!(rt; refused, Some(Fault::NotRelated));
     Ok(())
 }

@@ -1,8 +1,8 @@
--- The line of a block tells what it was made of. Assumes nothing.
+-- The line of a block tells what it was made of.
 use Rattle.std.proofs.Common.{◌≡◌, ℕ, ◌^◌, ◌<◌, true, List, ◌∷◌, ◌++◌, drop, codes, decimal, sym, refl, ap, ◌∙◌, append_assoc, arith}
 use Rattle.text.specs.Dotted.{byte0, byte1, byte2, byte3, dotted}
 use Rattle.routes.specs.declared.lines.BlockLine.{BlockLine}
-use Rattle.routes.specs.Laws.{BlocksTell}
+use Rattle.routes.specs.Laws.{LinesTellBlocks}
 use Rattle.routes.proofs.Telling.{decimal_split, number_split, stops}
 
 -- a byte, a dot and what follows it
@@ -39,7 +39,7 @@ after_first l = codes " to " ++ (dotted l.last.0 ++ after_last l)
 abbrev after_block : BlockLine → List ℕ
 after_block l = codes ", " ++ (dotted l.first.0 ++ after_first l)
 
-pub blocks_tell : BlocksTell
+pub blocks_tell : LinesTellBlocks
 blocks_tell l m hl hm e =
     let b = decimal_split l.block m.block (after_block l) (after_block m) (omega (arith, hl.0)) (omega (arith, hm.0)) refl refl (ap (drop 6) e) in
     let f = dotted_split l.first.0 m.first.0 (after_first l) (after_first m) hl.1 hm.1 refl refl (ap (drop 2) b.1) in

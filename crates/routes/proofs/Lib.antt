@@ -1,2 +1,5 @@
-pub mod Telling
-pub mod Blocks
+mod Telling
+mod Blocks
+mod Ways
+mod Settled
+mod Next

@@ -1,4 +1,4 @@
--- A line tells what it was made of. Assumes nothing.
+-- A line tells what it was made of.
 use Rattle.std.proofs.Common.{◌≡◌, ℕ, ◌^◌, ◌<◌, Bool, true, cond, not, List, [], ◌∷◌, ◌++◌, length, get_or, drop, codes, decimal, sym, refl, ap, ◌∙◌, append_assoc, arith}
 use Rattle.std.specs.Char.{is_ascii_digit}
 use Rattle.std.specs.Str.{all_ascii_digits}
@@ -9,8 +9,8 @@ use Rattle.std.proofs.lemmas.Str.Parse.{IsNumeralModel, numerals_by_value, tells
 use Rattle.std.proofs.lemmas.Bool.{and_parts}
 use Rattle.std.proofs.lemmas.Bool.Decides.{nat_tests}
 use Rattle.text.specs.Row.{spelled}
-use Rattle.selection.specs.Choosing.{Choice, nothing, local, via}
-use Rattle.routes.specs.Laws.{AllSmall, LinesTell, Small}
+use Rattle.model.specs.Selection.{Choice, nothing, local, via}
+use Rattle.routes.specs.Laws.{AllSmall, LinesTellRoutes, Small}
 use Rattle.routes.specs.Lines.{route_words}
 
 -- what the library knows of texts of digits
@@ -92,7 +92,7 @@ same_row (x ∷ p) (y ∷ q) hp hq e =
 abbrev pub tail : Choice → List ℕ
 tail nothing = codes " nothing\n"
 tail local = codes " home\n"
-tail (via j path) = codes " by " ++ (decimal j ++ (codes " over " ++ row path))
+tail (via j path) = codes " by " ++ (decimal j ++ (codes " over " ++ row path.networks))
 
 pub tail_stops : (c : Choice) → stops (tail c) ≡ true
 tail_stops nothing = refl
@@ -103,8 +103,8 @@ pub tail_is : (i : ℕ) (c : Choice) → route_words i c ≡ decimal i ++ tail c
 tail_is i nothing = refl
 tail_is i local = refl
 tail_is i (via j path) =
-    append_assoc (decimal i) (codes " by " ++ (decimal j ++ codes " over ")) (row path) ∙
-    ap (λ l. decimal i ++ (codes " by " ++ l)) (append_assoc (decimal j) (codes " over ") (row path))
+    append_assoc (decimal i) (codes " by " ++ (decimal j ++ codes " over ")) (row path.networks) ∙
+    ap (λ l. decimal i ++ (codes " by " ++ l)) (append_assoc (decimal j) (codes " over ") (row path.networks))
 
 pub differ : (l m : List ℕ) (k : ℕ) → get_or l k 0 < get_or m k 0 → l ≡ m → ⊥
 differ l m k h e = omega (arith, h, ap (λ x. get_or x k 0) e)
@@ -119,11 +119,11 @@ same_tail local (via k q) hc hd e = absurd (differ (tail (via k q)) (tail local)
 same_tail (via j p) nothing hc hd e = absurd (differ (tail (via j p)) (tail nothing) 1 (omega arith) e)
 same_tail (via j p) local hc hd e = absurd (differ (tail (via j p)) (tail local) 1 (omega arith) e)
 same_tail (via j p) (via k q) hc hd e =
-    let s = number_split j k (codes " over " ++ row p) (codes " over " ++ row q) hc.0 hd.0 refl refl (ap (drop 4) e) in
-    let more : p ≡ q = same_row p q hc.1 hd.1 (ap (drop 6) s.1) in
-    λ z. via (s.0 z) (more z)
+    let s = number_split j k (codes " over " ++ row p.networks) (codes " over " ++ row q.networks) hc.0 hd.0 refl refl (ap (drop 4) e) in
+    let more : p.networks ≡ q.networks = same_row p.networks q.networks hc.1 hd.1 (ap (drop 6) s.1) in
+    λ z. via (s.0 z) (record { networks = more z })
 
-pub lines_tell : LinesTell
+pub lines_tell : LinesTellRoutes
 lines_tell i k c d hi hk hc hd e =
     let s = number_split i k (tail c) (tail d) hi hk (tail_stops c) (tail_stops d) (sym (tail_is i c) ∙ e ∙ tail_is k d) in
     (s.0, same_tail c d hc hd s.1)

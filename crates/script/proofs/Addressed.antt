@@ -1,5 +1,5 @@
 -- An address reads back from its dotted form, and what is read has 32 bits. Assumes nothing.
-use Rattle.std.proofs.Common.{◌≡◌, ℕ, ◌+◌, ◌*◌, ◌%◌, ◌^◌, ◌<◌, Bool, true, false, cond, not, leb, List, [], ◌∷◌, ◌++◌, length, is_some, Some, None, Option, unwrap_or, decimal, refl, ap, ◌∙◌, arith}
+use Rattle.std.proofs.Common.{◌≡◌, ℕ, ◌+◌, ◌*◌, ◌%◌, ◌^◌, ◌<◌, Bool, true, false, cond, leb, List, [], ◌∷◌, ◌++◌, length, is_none, Some, None, Option, unwrap_or, decimal, refl, ap, ◌∙◌, arith}
 use Rattle.std.specs.List.{All}
 use Rattle.std.specs.Option.{ok_or}
 use Rattle.std.proofs.lemmas.Bool.{both_ways}
@@ -95,12 +95,12 @@ parts_fit (a ∷ b ∷ c ∷ []) = tt
 parts_fit (a ∷ b ∷ c ∷ d ∷ []) = four_fit (byte a) (byte b) (byte c) (byte d) (byte_fits a) (byte_fits b) (byte_fits c) (byte_fits d)
 parts_fit (a ∷ b ∷ c ∷ d ∷ e ∷ ps) = tt
 
-some_fits : (o : Option Address) → Fit o → not (is_some o) ≡ false → (unwrap_or o (record { 0 = 0 })).0 < 2 ^ 32
+some_fits : (o : Option Address) → Fit o → is_none o ≡ false → (unwrap_or o (record { 0 = 0 })).0 < 2 ^ 32
 some_fits None f h = absurd (both_ways true h refl)
 some_fits (Some a) f h = f
 
 -- what is read has 32 bits
-pub address_fits : (w : List ℕ) → not (is_some (address_of w)) ≡ false → (unwrap_or (address_of w) (record { 0 = 0 })).0 < 2 ^ 32
+pub address_fits : (w : List ℕ) → is_none (address_of w) ≡ false → (unwrap_or (address_of w) (record { 0 = 0 })).0 < 2 ^ 32
 address_fits w = some_fits (address_of w) (parts_fit (between_dots w))
 
 pub address_reads_back : AddressReadsBack

@@ -1,17 +1,18 @@
 -- What is written reads back. Assumes nothing.
-use Rattle.std.proofs.Common.{◌≡◌, ℕ, ◌+◌, ◌%◌, ◌^◌, ◌<◌, Bool, true, false, cond, not, ◌&&◌, ◌||◌, leb, List, [], ◌∷◌, ◌++◌, length, Some, Ok, codes, decimal, sym, refl, ap, ◌∙◌, append-nil, arith, length-append}
+use Rattle.std.proofs.Common.{◌≡◌, ℕ, ◌+◌, ◌%◌, ◌^◌, ◌<◌, Bool, true, false, cond, not, ◌&&◌, leb, List, [], ◌∷◌, ◌++◌, length, Some, Ok, codes, decimal, sym, refl, ap, ◌∙◌, append-nil, arith, length-append}
 use Rattle.std.proofs.lemmas.Fmt.{decimal_by_steps, decimal_nonempty}
 use Rattle.std.proofs.lemmas.Bool.{and_parts, and_from, lt-leb}
 use Rattle.std.proofs.lemmas.Bool.Decides.{nat_tests}
 use Rattle.text.specs.declared.address.Address.{Address}
 use Rattle.text.specs.Dotted.{byte0, byte1, byte2, byte3, dotted}
+use Rattle.model.specs.Checks.{first_fault}
 use Rattle.script.specs.declared.cause.Cause.TheVariants.{BadByte}
 use Rattle.script.specs.declared.command.Command.{Command}
 use Rattle.script.specs.declared.command.Command.TheVariants.{Turn, Hear, Send, Show, Rest}
 use Rattle.script.specs.declared.command.Limits.{Limits}
 use Rattle.script.specs.Addresses.{address_of}
 use Rattle.script.specs.Digits.{value}
-use Rattle.script.specs.Faults.{is, plain, is_plain, told, words_have}
+use Rattle.script.specs.Faults.{plain, is_plain, words_checks}
 use Rattle.script.specs.Laws.{ReadsBack, ScriptReadsBack}
 use Rattle.script.specs.Meaning.{judged, meaning, read_line, read_words}
 use Rattle.script.specs.Parts.{Feedless, before, content, ended, is_blank, is_feed, is_mark, lines, opened, words}
@@ -113,8 +114,8 @@ spaced_holds w (v ∷ vs) h hs = holds_more w (spaced (v ∷ vs)) (v ∷ vs) h (
 
 held_reads : (limits : Limits) (line : List ℕ) (ws : List (List ℕ)) → Holds line ws → read_line limits line ≡ read_words limits ws
 held_reads limits line ws h =
-    ap (λ l. judged (told (λ c. (is c BadByte && not (plain l)) || words_have limits (words l) c)) (meaning (words l))) h.bare ∙
-    (λ i. judged (told (λ c. (is c BadByte && not (h.good i)) || words_have limits (h.cut i) c)) (meaning (h.cut i)))
+    ap (λ l. judged (first_fault ((BadByte, not (plain l)) ∷ words_checks limits (words l))) (meaning (words l))) h.bare ∙
+    (λ i. judged (first_fault ((BadByte, not (h.good i)) ∷ words_checks limits (h.cut i))) (meaning (h.cut i)))
 
 module _ (limits : Limits) where
   turn_reads : (i j : ℕ) (w v : List ℕ) (up : Bool) → value w ≡ Some i → value v ≡ Some j → leb limits.networks i ≡ false → leb limits.networks j ≡ false → read_words limits (codes "turn" ∷ w ∷ v ∷ cond up (codes "up") (codes "down") ∷ []) ≡ Ok (Some (Turn i j up))

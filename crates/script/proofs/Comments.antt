@@ -1,7 +1,8 @@
 -- A comment changes nothing. Assumes nothing.
-use Rattle.std.proofs.Common.{◌≡◌, ℕ, Bool, true, false, cond, not, ◌&&◌, ◌||◌, List, [], ◌∷◌, ◌++◌, refl, ap}
+use Rattle.std.proofs.Common.{◌≡◌, ℕ, Bool, true, false, cond, not, List, [], ◌∷◌, ◌++◌, refl, ap}
+use Rattle.model.specs.Checks.{first_fault}
 use Rattle.script.specs.declared.cause.Cause.TheVariants.{BadByte}
-use Rattle.script.specs.Faults.{is, plain, told, words_have}
+use Rattle.script.specs.Faults.{plain, words_checks}
 use Rattle.script.specs.Laws.{CommentsSayNothing}
 use Rattle.script.specs.Meaning.{judged, meaning}
 use Rattle.script.specs.Parts.{before, content, is_mark, words}
@@ -17,4 +18,4 @@ content_same (b ∷ bs) comment = content_on (is_mark b) b _ _ (content_same bs 
 
 pub comments_say_nothing_lem : CommentsSayNothing
 comments_say_nothing_lem limits line comment =
-    ap (λ l. judged (told (λ c. (is c BadByte && not (plain l)) || words_have limits (words l) c)) (meaning (words l))) (content_same line comment)
+    ap (λ l. judged (first_fault ((BadByte, not (plain l)) ∷ words_checks limits (words l))) (meaning (words l))) (content_same line comment)

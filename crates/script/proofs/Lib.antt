@@ -9,3 +9,4 @@ pub mod Comments
 pub mod Back
 pub mod Bounds
 pub mod Turned
+pub mod Lowest

@@ -1,21 +1,22 @@
 -- A list of turns beside a script of the same text. Assumes nothing.
-use Rattle.std.proofs.Common.{◌≡◌, ◌≢◌, ℕ, ◌+◌, Bool, true, false, cond, not, ◌&&◌, ◌||◌, List, [], ◌∷◌, Some, None, Ok, Err, Option, Result, codes, sym, refl, ap, ◌∙◌, arith}
+use Rattle.std.proofs.Common.{◌≡◌, ◌≢◌, ℕ, ◌+◌, Bool, true, false, cond, not, List, [], ◌∷◌, Some, None, Ok, Err, Option, Result, codes, sym, refl, ap, ◌∙◌, arith}
 use Rattle.std.specs.Option.{option_map}
 use Rattle.std.specs.Str.{bytes_eq}
-use Rattle.std.proofs.lemmas.Bool.{both_ways, cond-true, cond-false, or_parts}
+use Rattle.std.proofs.lemmas.Bool.{both_ways, cond-true, cond-false}
+use Rattle.model.specs.Checks.{first_fault}
 use Rattle.script.specs.declared.cause.Cause.{Cause}
 use Rattle.script.specs.declared.cause.Cause.TheVariants.{BadByte, UnknownWord}
 use Rattle.script.specs.declared.command.Command.{Command}
 use Rattle.script.specs.declared.command.Command.TheVariants as command
 use Rattle.script.specs.declared.command.Limits.{Limits}
 use Rattle.script.specs.declared.command.Turn.{Turn}
-use Rattle.script.specs.Faults.{Verb, form, hear, is, line_has, parts_have, plain, rest, send, show, told, turn, verb, verb_has, words_have}
+use Rattle.script.specs.Faults.{Verb, hear, line_checks, named_checks, plain, rest, send, show, turn, turn_checks, unknown, verb, words_checks}
 use Rattle.script.specs.Laws.{OtherCommands, OthersUnknown, TurnsAlone, TurnsAsInScripts, TurnsLineByLine, TurnsNextByNext}
 use Rattle.script.specs.Meaning.{asked, judged, meaning, read_line}
 use Rattle.script.specs.Parts.{Line, content, lines, words}
-use Rattle.script.specs.Turns.{as_command, as_read, commands_at, is_turn, meant, of_networks, opens, read_turn_line, turns_at, turns_have}
+use Rattle.script.specs.Turns.{as_command, as_read, commands_at, is_turn, meant, opens, read_turn_line, turns_at, turns_checks}
 use Rattle.script.specs.Whole.{Entry, entries_in, noted}
-use Rattle.script.proofs.Bounds.{clean, first_none, judged_ok}
+use Rattle.script.proofs.Bounds.{first_none, judged_ok}
 use Rattle.script.proofs.Entries.{line_by_line_of, next_by_next_of}
 
 abbrev lift_some : {T : Type 0} → Result T Cause → Result (Option T) Cause
@@ -28,42 +29,33 @@ as_read_judged None (Some t) = refl
 as_read_judged (Some c) x = refl
 
 -- whatever else is wrong with a line
-module _ (limits : Limits) (bad : Cause → Bool) where
-  parts_same : (ws : List (List ℕ)) (c : Cause) → parts_have limits (form turn) ws c ≡ parts_have (of_networks limits.networks) (form turn) ws c
-  parts_same [] c = refl
-  parts_same (w ∷ []) c = refl
-  parts_same (w ∷ v ∷ []) c = refl
-  parts_same (w ∷ v ∷ s ∷ []) c = refl
-  parts_same (w ∷ v ∷ s ∷ x ∷ ws) c = refl
-
-  opened_same : (ws : List (List ℕ)) → opens ws ≡ true → judged (told (λ c. bad c || words_have limits ws c)) (meaning ws) ≡ as_read (judged (told (λ c. bad c || turns_have limits.networks ws c)) (meant ws))
-  opened_same [] h = sym (as_read_judged (told (λ c. bad c || false)) None)
-  opened_same (w ∷ ws) h =
-      let named : verb w ≡ Some turn = cond-true (is_turn w) _ _ h in
-      ap (λ o. judged (told (λ c. bad c || verb_has limits o ws c)) (option_map (λ v. asked v ws) o)) named ∙
-      (λ i. judged (told (λ c. bad c || parts_same ws c i)) (Some (asked turn ws))) ∙
-      ap (λ t. judged (told (λ c. bad c || cond t (parts_have (of_networks limits.networks) (form turn) ws c) (is c UnknownWord))) (Some (asked turn ws))) (sym h) ∙
-      sym (as_read_judged (told (λ c. bad c || turns_have limits.networks (w ∷ ws) c)) (meant (w ∷ ws)))
+opened_same : (limits : Limits) (bad : Bool) (ws : List (List ℕ)) → opens ws ≡ true → judged (first_fault ((BadByte, bad) ∷ words_checks limits ws)) (meaning ws) ≡ as_read (judged (first_fault ((BadByte, bad) ∷ turns_checks limits.networks ws)) (meant ws))
+opened_same limits bad [] h = sym (as_read_judged (first_fault ((BadByte, bad) ∷ [])) None)
+opened_same limits bad (w ∷ ws) h =
+    let named : verb w ≡ Some turn = cond-true (is_turn w) _ _ h in
+    ap (λ o. judged (first_fault ((BadByte, bad) ∷ named_checks limits o ws)) (option_map (λ v. asked v ws) o)) named ∙
+    ap (λ t. judged (first_fault ((BadByte, bad) ∷ cond t (turn_checks limits.networks ws) unknown)) (Some (asked turn ws))) (sym h) ∙
+    sym (as_read_judged (first_fault ((BadByte, bad) ∷ turns_checks limits.networks (w ∷ ws))) (meant (w ∷ ws)))
 
 pub turns_as_in_scripts_lem : TurnsAsInScripts
-turns_as_in_scripts_lem limits line h = opened_same limits (λ c. is c BadByte && not (plain (content line))) (words (content line)) h
+turns_as_in_scripts_lem limits line h = opened_same limits (not (plain (content line))) (words (content line)) h
 
-unknown_told : (good : Bool) (x : Option Turn) → judged (told (λ c. (is c BadByte && not good) || is c UnknownWord)) x ≡ Err (cond good UnknownWord BadByte)
+unknown_told : (good : Bool) (x : Option Turn) → judged (first_fault ((BadByte, not good) ∷ unknown)) x ≡ Err (cond good UnknownWord BadByte)
 unknown_told true x = refl
 unknown_told false x = refl
 
-closed_unknown : (n : ℕ) (good : Bool) (ws : List (List ℕ)) → opens ws ≡ false → judged (told (λ c. (is c BadByte && not good) || turns_have n ws c)) (meant ws) ≡ Err (cond good UnknownWord BadByte)
+closed_unknown : (n : ℕ) (good : Bool) (ws : List (List ℕ)) → opens ws ≡ false → judged (first_fault ((BadByte, not good) ∷ turns_checks n ws)) (meant ws) ≡ Err (cond good UnknownWord BadByte)
 closed_unknown n good [] h = absurd (both_ways true h refl)
 closed_unknown n good (w ∷ ws) h =
-    ap (λ t. judged (told (λ c. (is c BadByte && not good) || cond t (parts_have (of_networks n) (form turn) ws c) (is c UnknownWord))) (meant (w ∷ ws))) h ∙
+    ap (λ t. judged (first_fault ((BadByte, not good) ∷ cond t (turn_checks n ws) unknown)) (meant (w ∷ ws))) h ∙
     unknown_told good (meant (w ∷ ws))
 
 pub others_unknown_lem : OthersUnknown
 others_unknown_lem n line h = closed_unknown n (plain (content line)) (words (content line)) h
 
 -- a line that says no turn: nothing is read as one of it, and it is not empty
-not_turn : (limits : Limits) (o : Option Verb) (ws : List (List ℕ)) → o ≢ Some turn → verb_has limits o ws UnknownWord ≡ false → (option_map (λ v. asked v ws) o ≢ None) × ((t : Turn) → option_map (λ v. asked v ws) o ≢ Some (as_command t))
-not_turn limits None ws h e = absurd (both_ways true e refl)
+not_turn : (limits : Limits) (o : Option Verb) (ws : List (List ℕ)) → o ≢ Some turn → first_fault (named_checks limits o ws) ≡ None → (option_map (λ v. asked v ws) o ≢ None) × ((t : Turn) → option_map (λ v. asked v ws) o ≢ Some (as_command t))
+not_turn limits None ws h e = let z : ◌≡◌ {A = ℕ} 0 1 = cc in absurd (omega arith)
 not_turn limits (Some turn) ws h e = absurd (h refl)
 not_turn limits (Some hear) ws h e = ((λ q. let z : ◌≡◌ {A = ℕ} 0 1 = cc in absurd (omega arith)), (λ t q. let z : ◌≡◌ {A = ℕ} 0 1 = cc in absurd (omega arith)))
 not_turn limits (Some send) ws h e = ((λ q. let z : ◌≡◌ {A = ℕ} 0 1 = cc in absurd (omega arith)), (λ t q. let z : ◌≡◌ {A = ℕ} 0 1 = cc in absurd (omega arith)))
@@ -82,14 +74,14 @@ no_turn_verb : (w : List ℕ) → is_turn w ≡ false → verb w ≢ Some turn
 no_turn_verb w h q = other_verb (bytes_eq w (codes "hear")) (bytes_eq w (codes "send")) (bytes_eq w (codes "show")) (bytes_eq w (codes "rest")) (sym (cond-false (is_turn w) _ _ h) ∙ q)
 
 -- a line that is read as something, and does not begin with `turn`
-closed_words : (limits : Limits) (ws : List (List ℕ)) → opens ws ≡ false → words_have limits ws UnknownWord ≡ false → (meaning ws ≢ None) × ((t : Turn) → meaning ws ≢ Some (as_command t))
+closed_words : (limits : Limits) (ws : List (List ℕ)) → opens ws ≡ false → first_fault (words_checks limits ws) ≡ None → (meaning ws ≢ None) × ((t : Turn) → meaning ws ≢ Some (as_command t))
 closed_words limits [] h e = absurd (both_ways true h refl)
 closed_words limits (w ∷ ws) h e = not_turn limits (verb w) ws (no_turn_verb w h) e
 
 -- a line has no bad byte, and means what was read
 record Fine (limits : Limits) (line : List ℕ) (x : Option Command) : Type 0 where
   good : plain (content line) ≡ true
-  known : words_have limits (words (content line)) UnknownWord ≡ false
+  known : first_fault (words_checks limits (words (content line))) ≡ None
   means : meaning (words (content line)) ≡ x
 
 good_line : (p : Bool) → not p ≡ false → p ≡ true
@@ -98,13 +90,9 @@ good_line false h = absurd (both_ways true h refl)
 
 fine : (limits : Limits) (line : List ℕ) (x : Option Command) → read_line limits line ≡ Ok x → Fine limits line x
 fine limits line x e =
-    let h = judged_ok (told (line_has limits line)) _ _ e in
-    let bad = first_none (line_has limits line BadByte) _ _ h.0 in
-    record {
-      good = good_line (plain (content line)) (or_parts (not (plain (content line))) _ bad.0).0;
-      known = (clean (line_has limits line) h.0).unknown;
-      means = h.1;
-    }
+    let h = judged_ok (first_fault (line_checks limits line)) _ _ e in
+    let bad = first_none (not (plain (content line))) BadByte _ h.0 in
+    record { good = good_line (plain (content line)) bad.0; known = bad.1; means = h.1 }
 
 as_read_some : (r : Result (Option Turn) Cause) (c : Command) → as_read r ≡ Ok (Some c) → ((t : Turn) → c ≢ as_command t) → ⊥
 as_read_some (Ok None) c e other = let z : ◌≡◌ {A = ℕ} 0 1 = cc in omega arith

@@ -1,46 +1,14 @@
--- Which faults a line has, and which of them is told. Assumes nothing.
-use Rattle.std.specs.Prelude.{ℕ, Bool, true, false, cond, not, ◌&&◌, ◌||◌, List, [], ◌∷◌, is_some, Some, None, codes, Option, ◌==◌, nat_le}
-use Rattle.std.specs.List.{find, list_all}
+-- What may be wrong with a line, in the order in which it is told. Assumes nothing.
+use Rattle.std.specs.Prelude.{ℕ, Bool, true, false, cond, not, ◌||◌, ◌&&◌, List, [], ◌∷◌, is_none, is_some, Some, None, codes, Option, nat_le, slice_get}
+use Rattle.std.specs.List.{list_all}
 use Rattle.std.specs.Str.{bytes_eq}
+use Rattle.model.specs.Checks.{Checks}
 use Rattle.script.specs.declared.cause.Cause.{Cause}
 use Rattle.script.specs.declared.cause.Cause.TheVariants.{BadByte, UnknownWord, MissingWord, SurplusWord, NotANumber, NotAnAddress, NoSuchNetwork, NoSuchBlock}
 use Rattle.script.specs.declared.command.Limits.{Limits}
 use Rattle.script.specs.Addresses.{address_of}
 use Rattle.script.specs.Digits.{value}
 use Rattle.script.specs.Parts.{content, is_blank, words}
-
--- the number of a fault
-abbrev pub number : Cause → ℕ
-number BadByte = 1
-number UnknownWord = 1
-number MissingWord = 1
-number SurplusWord = 1
-number NotANumber = 1
-number NotAnAddress = 1
-number NoSuchNetwork = 2
-number NoSuchBlock = 2
-
--- all causes, in the order in which they are told: by number, and those of one number as listed
-abbrev pub causes : List Cause
-causes = BadByte ∷ UnknownWord ∷ MissingWord ∷ SurplusWord ∷ NotANumber ∷ NotAnAddress ∷ NoSuchNetwork ∷ NoSuchBlock ∷ []
-
--- the first of the causes that a line has
-abbrev pub told : (Cause → Bool) → Option Cause
-told has = find has causes
-
-abbrev pub place : Cause → ℕ
-place BadByte = 0
-place UnknownWord = 1
-place MissingWord = 2
-place SurplusWord = 3
-place NotANumber = 4
-place NotAnAddress = 5
-place NoSuchNetwork = 6
-place NoSuchBlock = 7
-
--- two causes are one
-abbrev pub is : Cause → Cause → Bool
-is c d = place c == place d
 
 -- what a line asks for, by its first word
 pub data Verb : Type 0 where
@@ -58,20 +26,6 @@ verb w =
     (cond (bytes_eq w (codes "show")) (Some show)
     (cond (bytes_eq w (codes "rest")) (Some rest) None))))
 
--- what the words after the first are: the number of a network or a block, an address, or how a link stands
-pub data Part : Type 0 where
-  network : Part
-  block : Part
-  address : Part
-  state : Part
-
-abbrev pub form : Verb → List Part
-form turn = network ∷ network ∷ state ∷ []
-form hear = network ∷ network ∷ []
-form send = network ∷ address ∷ []
-form show = block ∷ []
-form rest = []
-
 -- a link is up, or not
 abbrev pub standing : List ℕ → Option Bool
 standing w = cond (bytes_eq w (codes "up")) (Some true) (cond (bytes_eq w (codes "down")) (Some false) None)
@@ -81,28 +35,73 @@ abbrev pub reaches : ℕ → Option ℕ → Bool
 reaches limit None = false
 reaches limit (Some v) = nat_le limit v
 
--- what is wrong with one word
-abbrev pub part_has : Limits → Part → List ℕ → Cause → Bool
-part_has limits network w c = (is c NotANumber && not (is_some (value w))) || (is c NoSuchNetwork && reaches limits.networks (value w))
-part_has limits block w c = (is c NotANumber && not (is_some (value w))) || (is c NoSuchBlock && reaches limits.blocks (value w))
-part_has limits address w c = is c NotAnAddress && not (is_some (address_of w))
-part_has limits state w c = is c UnknownWord && not (is_some (standing w))
+-- of a word that may be there: it is there, and is no number; a number not below a limit; no address; neither `up` nor
+-- `down`
+abbrev pub no_number : Option (List ℕ) → Bool
+no_number None = false
+no_number (Some w) = is_none (value w)
 
--- what is wrong with the words after the first
-abbrev pub parts_have : Limits → List Part → List (List ℕ) → Cause → Bool
-parts_have limits [] [] c = false
-parts_have limits [] (w ∷ ws) c = is c SurplusWord
-parts_have limits (p ∷ ps) [] c = is c MissingWord
-parts_have limits (p ∷ ps) (w ∷ ws) c = part_has limits p w c || parts_have limits ps ws c
+abbrev pub beyond : ℕ → Option (List ℕ) → Bool
+beyond limit None = false
+beyond limit (Some w) = reaches limit (value w)
 
-abbrev pub verb_has : Limits → Option Verb → List (List ℕ) → Cause → Bool
-verb_has limits None ws c = is c UnknownWord
-verb_has limits (Some v) ws c = parts_have limits (form v) ws c
+abbrev pub no_address : Option (List ℕ) → Bool
+no_address None = false
+no_address (Some w) = is_none (address_of w)
 
--- what is wrong with the words of a line; with none, nothing
-abbrev pub words_have : Limits → List (List ℕ) → Cause → Bool
-words_have limits [] c = false
-words_have limits (w ∷ ws) c = verb_has limits (verb w) ws c
+abbrev pub no_standing : Option (List ℕ) → Bool
+no_standing None = false
+no_standing (Some w) = is_none (standing w)
+
+-- of the numbers of two networks of n
+abbrev pub pair_checks : ℕ → Option (List ℕ) → Option (List ℕ) → Checks Cause
+pair_checks n first second =
+    (NotANumber, no_number first || no_number second) ∷
+    (NoSuchNetwork, beyond n first || beyond n second) ∷
+    []
+
+-- of the words after `turn`, among n networks
+abbrev pub turn_checks : ℕ → List (List ℕ) → Checks Cause
+turn_checks n ws =
+    (UnknownWord, no_standing (slice_get ws 2)) ∷
+    (MissingWord, is_none (slice_get ws 2)) ∷
+    (SurplusWord, is_some (slice_get ws 3)) ∷
+    pair_checks n (slice_get ws 0) (slice_get ws 1)
+
+-- of the words after the first
+abbrev pub verb_checks : Limits → Verb → List (List ℕ) → Checks Cause
+verb_checks limits turn ws = turn_checks limits.networks ws
+verb_checks limits hear ws =
+    (MissingWord, is_none (slice_get ws 1)) ∷
+    (SurplusWord, is_some (slice_get ws 2)) ∷
+    pair_checks limits.networks (slice_get ws 0) (slice_get ws 1)
+verb_checks limits send ws =
+    (MissingWord, is_none (slice_get ws 1)) ∷
+    (SurplusWord, is_some (slice_get ws 2)) ∷
+    (NotANumber, no_number (slice_get ws 0)) ∷
+    (NotAnAddress, no_address (slice_get ws 1)) ∷
+    (NoSuchNetwork, beyond limits.networks (slice_get ws 0)) ∷
+    []
+verb_checks limits show ws =
+    (MissingWord, is_none (slice_get ws 0)) ∷
+    (SurplusWord, is_some (slice_get ws 1)) ∷
+    (NotANumber, no_number (slice_get ws 0)) ∷
+    (NoSuchBlock, beyond limits.blocks (slice_get ws 0)) ∷
+    []
+verb_checks limits rest ws = (SurplusWord, is_some (slice_get ws 0)) ∷ []
+
+-- a first word that says nothing; of the others nothing is said
+abbrev pub unknown : Checks Cause
+unknown = (UnknownWord, true) ∷ []
+
+abbrev pub named_checks : Limits → Option Verb → List (List ℕ) → Checks Cause
+named_checks limits None ws = unknown
+named_checks limits (Some v) ws = verb_checks limits v ws
+
+-- of the words of a line; with none, nothing is wrong
+abbrev pub words_checks : Limits → List (List ℕ) → Checks Cause
+words_checks limits [] = []
+words_checks limits (w ∷ ws) = named_checks limits (verb w) ws
 
 -- blank or printable
 abbrev pub is_plain : ℕ → Bool
@@ -111,6 +110,6 @@ is_plain b = is_blank b || (nat_le 33 b && nat_le b 126)
 abbrev pub plain : List ℕ → Bool
 plain bs = list_all is_plain bs
 
--- what is wrong with a line
-abbrev pub line_has : Limits → List ℕ → Cause → Bool
-line_has limits l c = (is c BadByte && not (plain (content l))) || words_have limits (words (content l)) c
+-- of a line
+abbrev pub line_checks : Limits → List ℕ → Checks Cause
+line_checks limits l = (BadByte, not (plain (content l))) ∷ words_checks limits (words (content l))

@@ -2,8 +2,10 @@ pub mod Parts
 pub mod Digits
 pub mod Addresses
 pub mod Faults
+pub mod Number
 pub mod Meaning
 pub mod Next
+pub mod Lowest
 pub mod Whole
 pub mod Written
 pub mod Turns

@@ -1,6 +1,7 @@
 -- What a line says. Assumes nothing.
 use Rattle.std.specs.Prelude.{ℕ, Bool, false, List, [], ◌∷◌, Some, None, Ok, Err, Option, Result, slice_index_or}
 use Rattle.std.specs.Option.{option_map, unwrap_or}
+use Rattle.model.specs.Checks.{first_fault}
 use Rattle.text.specs.declared.address.Address.{Address}
 use Rattle.script.specs.declared.cause.Cause.{Cause}
 use Rattle.script.specs.declared.cause.Cause.TheVariants.{UnknownWord}
@@ -9,7 +10,7 @@ use Rattle.script.specs.declared.command.Command.TheVariants.{Turn, Hear, Send, 
 use Rattle.script.specs.declared.command.Limits.{Limits}
 use Rattle.script.specs.Addresses.{address_of}
 use Rattle.script.specs.Digits.{value}
-use Rattle.script.specs.Faults.{Verb, turn, hear, send, show, rest, form, line_has, parts_have, standing, told, verb, words_have}
+use Rattle.script.specs.Faults.{Verb, turn, hear, send, show, rest, line_checks, standing, verb, verb_checks, words_checks}
 use Rattle.script.specs.Parts.{content, words}
 
 -- the number that word k is
@@ -41,14 +42,14 @@ judged (Some c) x = Err c
 
 -- what is read: a command or a cause, and of an empty line nothing
 abbrev pub read_verb : Limits → Verb → List (List ℕ) → Result Command Cause
-read_verb limits v ws = judged (told (parts_have limits (form v) ws)) (asked v ws)
+read_verb limits v ws = judged (first_fault (verb_checks limits v ws)) (asked v ws)
 
 abbrev pub read_named : Limits → Option Verb → List (List ℕ) → Result Command Cause
 read_named limits None ws = Err UnknownWord
 read_named limits (Some v) ws = read_verb limits v ws
 
 abbrev pub read_words : Limits → List (List ℕ) → Result (Option Command) Cause
-read_words limits ws = judged (told (words_have limits ws)) (meaning ws)
+read_words limits ws = judged (first_fault (words_checks limits ws)) (meaning ws)
 
 abbrev pub read_line : Limits → List ℕ → Result (Option Command) Cause
-read_line limits l = judged (told (line_has limits l)) (meaning (words (content l)))
+read_line limits l = judged (first_fault (line_checks limits l)) (meaning (words (content l)))

@@ -2,12 +2,18 @@
 use Rattle.std.specs.Prelude.{◌≡◌, ℕ, Bool, true, cond, not, ◌||◌, List, [], ◌∷◌, ◌==◌}
 
 -- a line feed
+abbrev pub feed : ℕ
+feed = 10
+
 abbrev pub is_feed : ℕ → Bool
-is_feed b = b == 10
+is_feed b = b == feed
 
 -- `#`, after which all is comment
+abbrev pub mark : ℕ
+mark = 35
+
 abbrev pub is_mark : ℕ → Bool
-is_mark b = b == 35
+is_mark b = b == mark
 
 -- a space, a tab or a carriage return
 abbrev pub is_blank : ℕ → Bool

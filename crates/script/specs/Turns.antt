@@ -1,21 +1,18 @@
 -- A list of turns: a script in which `turn` alone says something. Assumes nothing.
-use Rattle.std.specs.Prelude.{ℕ, ◌<◌, Bool, true, false, cond, not, ◌&&◌, ◌||◌, List, [], ◌∷◌, Some, None, Ok, Err, codes, Option, Result}
+use Rattle.std.specs.Prelude.{ℕ, ◌<◌, Bool, true, cond, not, List, [], ◌∷◌, Some, None, Ok, Err, codes, Option, Result}
 use Rattle.std.specs.Str.{bytes_eq}
+use Rattle.model.specs.Checks.{Checks, first_fault}
 use Rattle.script.specs.declared.cause.Cause.{Cause}
-use Rattle.script.specs.declared.cause.Cause.TheVariants.{BadByte, UnknownWord}
+use Rattle.script.specs.declared.cause.Cause.TheVariants.{BadByte}
 use Rattle.script.specs.declared.command.Command.{Command}
 use Rattle.script.specs.declared.command.Command.TheVariants as command
-use Rattle.script.specs.declared.command.Limits.{Limits}
 use Rattle.script.specs.declared.command.Turn.{Turn}
-use Rattle.script.specs.Faults.{form, is, parts_have, plain, told, turn}
+use Rattle.script.specs.declared.script.Script.{Script}
+use Rattle.script.specs.Faults.{plain, turn_checks, unknown}
 use Rattle.script.specs.Meaning.{judged, number_at, up_at}
-use Rattle.script.specs.Next.{Ahead, ahead_by}
+use Rattle.script.specs.Next.{Ahead, ahead_by, left_of, line_of}
 use Rattle.script.specs.Parts.{content, words}
-use Rattle.script.specs.Whole.{Entry, entries_by}
-
--- a turn names no block
-abbrev pub of_networks : ℕ → Limits
-of_networks n = record { networks = n; blocks = 0 }
+use Rattle.script.specs.Whole.{Entry, entries_by, headed}
 
 -- the turn, by the words after the first
 abbrev pub asked : List (List ℕ) → Turn
@@ -26,19 +23,19 @@ as_command t = command.Turn t.first t.second t.up
 
 -- what is read of the words after `turn`
 abbrev pub read_turn : ℕ → List (List ℕ) → Result Turn Cause
-read_turn n ws = judged (told (parts_have (of_networks n) (form turn) ws)) (asked ws)
+read_turn n ws = judged (first_fault (turn_checks n ws)) (asked ws)
 
 abbrev pub is_turn : List ℕ → Bool
 is_turn w = bytes_eq w (codes "turn")
 
--- what is wrong with the words of a line: any first word but `turn` is unknown, whatever follows it
-abbrev pub turns_have : ℕ → List (List ℕ) → Cause → Bool
-turns_have n [] c = false
-turns_have n (w ∷ ws) c = cond (is_turn w) (parts_have (of_networks n) (form turn) ws c) (is c UnknownWord)
+-- of the words of a line: any first word but `turn` is unknown, whatever follows it
+abbrev pub turns_checks : ℕ → List (List ℕ) → Checks Cause
+turns_checks n [] = []
+turns_checks n (w ∷ ws) = cond (is_turn w) (turn_checks n ws) unknown
 
--- what is wrong with a line
-abbrev pub turn_line_has : ℕ → List ℕ → Cause → Bool
-turn_line_has n l c = (is c BadByte && not (plain (content l))) || turns_have n (words (content l)) c
+-- of a line
+abbrev pub turn_line_checks : ℕ → List ℕ → Checks Cause
+turn_line_checks n l = (BadByte, not (plain (content l))) ∷ turns_checks n (words (content l))
 
 abbrev pub meant : List (List ℕ) → Option Turn
 meant [] = None
@@ -46,10 +43,10 @@ meant (w ∷ ws) = Some (asked ws)
 
 -- what is read: a turn or a cause, and of an empty line nothing
 abbrev pub read_turn_words : ℕ → List (List ℕ) → Result (Option Turn) Cause
-read_turn_words n ws = judged (told (turns_have n ws)) (meant ws)
+read_turn_words n ws = judged (first_fault (turns_checks n ws)) (meant ws)
 
 abbrev pub read_turn_line : ℕ → List ℕ → Result (Option Turn) Cause
-read_turn_line n l = judged (told (turn_line_has n l)) (meant (words (content l)))
+read_turn_line n l = judged (first_fault (turn_line_checks n l)) (meant (words (content l)))
 
 -- what comes next in a list of turns, of n networks
 abbrev pub turns_ahead : ℕ → ℕ → List ℕ → Ahead Turn
@@ -84,3 +81,13 @@ turns_at (t ∷ ts) = record { line = t.0; says = Ok t.1 } ∷ turns_at ts
 abbrev pub commands_at : List (ℕ × Turn) → List (Entry Command)
 commands_at [] = []
 commands_at (t ∷ ts) = record { line = t.0; says = Ok (as_command t.1) } ∷ commands_at ts
+
+-- what a reader of a list of turns gives next, all that it has yet to say, and an answer with what it says after it
+abbrev pub turn_coming : ℕ → Script → Ahead Turn
+turn_coming n s = turns_ahead n (line_of s) (left_of s)
+
+abbrev pub turn_entries_in : ℕ → Script → List (Entry Turn)
+turn_entries_in n s = turn_entries n (line_of s) (left_of s)
+
+abbrev pub turns_then : ℕ → Result (Option Turn) Cause → Script → List (Entry Turn)
+turns_then n answer s = headed answer (line_of s) (turn_entries_in n s)

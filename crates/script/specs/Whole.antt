@@ -3,8 +3,9 @@ use Rattle.std.specs.Prelude.{ℕ, ◌+◌, List, [], ◌∷◌, Some, None, Ok,
 use Rattle.script.specs.declared.cause.Cause.{Cause}
 use Rattle.script.specs.declared.command.Command.{Command}
 use Rattle.script.specs.declared.command.Limits.{Limits}
+use Rattle.script.specs.declared.script.Script.{Script}
 use Rattle.script.specs.Meaning.{read_line}
-use Rattle.script.specs.Next.{Ahead, Reader}
+use Rattle.script.specs.Next.{Ahead, Reader, ahead, left_of, line_of}
 use Rattle.script.specs.Parts.{Line, lines}
 
 -- what is asked for or a cause, and its line
@@ -47,3 +48,13 @@ listed limits a = listed_by (read_line limits) a
 abbrev pub numbered : ℕ → List Command → List (Entry Command)
 numbered k [] = []
 numbered k (c ∷ cs) = record { line = k + 1; says = Ok c } ∷ numbered (k + 1) cs
+
+-- what a reader of a script gives next, all that it has yet to say, and an answer with what it says after it
+abbrev pub coming : Limits → Script → Ahead Command
+coming limits s = ahead limits (line_of s) (left_of s)
+
+abbrev pub entries_of : Limits → Script → List (Entry Command)
+entries_of limits s = entries limits (line_of s) (left_of s)
+
+abbrev pub followed : Limits → Result (Option Command) Cause → Script → List (Entry Command)
+followed limits answer s = headed answer (line_of s) (entries_of limits s)

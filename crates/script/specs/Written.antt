@@ -1,6 +1,7 @@
 -- Commands as text. Assumes nothing.
 use Rattle.std.specs.Prelude.{ℕ, ◌^◌, ◌<◌, cond, List, [], ◌∷◌, ◌++◌, codes, decimal}
 use Rattle.text.specs.Dotted.{dotted}
+use Rattle.script.specs.Parts.{feed}
 use Rattle.script.specs.declared.command.Command.{Command}
 use Rattle.script.specs.declared.command.Command.TheVariants.{Turn, Hear, Send, Show, Rest}
 use Rattle.script.specs.declared.command.Limits.{Limits}
@@ -32,7 +33,7 @@ Within limits Rest = Unit {0}
 -- a line for each command
 abbrev pub all_written : List Command → List ℕ
 all_written [] = []
-all_written (c ∷ cs) = written c ++ (10 ∷ all_written cs)
+all_written (c ∷ cs) = written c ++ (feed ∷ all_written cs)
 
 abbrev pub AllWithin : Limits → List Command → Type 0
 AllWithin limits [] = Unit {0}

@@ -11,7 +11,8 @@ use text::Address;
 
 // The byte that a part is the number of.
 fn byte(part: &[u8]) -> Result<u8, Cause>
-    ensures { MatchResult result (λ b. byte_of_part part.now ≡ Some b) (λ c. (c ≡ NotAnAddress) × (byte_of_part part.now ≡ None)) }
+    ensures { MatchResult result (λ b. byte_of_part part.now ≡ Some b)
+        (λ c. (c ≡ NotAnAddress) × (byte_of_part part.now ≡ None)) }
 {
     if part.is_empty() {
         return Err(Cause::NotAnAddress);
@@ -33,7 +34,8 @@ fn cut_dot(word: &[u8]) -> (&[u8], &[u8])
 // The part before the first dot, and what follows that dot.
 #[tactic(auto, using(crate::proofs::Dots::first_part, crate::proofs::Dots::only_part))]
 fn next_part(word: &[u8]) -> Result<(&[u8], &[u8]), Cause>
-    ensures { MatchResult result (λ p. between_dots word.now ≡ p.0.now ∷ between_dots p.1.now) (λ c. (c ≡ NotAnAddress) × (between_dots word.now ≡ word.now ∷ [])) }
+    ensures { MatchResult result (λ p. between_dots word.now ≡ p.0.now ∷ between_dots p.1.now)
+        (λ c. (c ≡ NotAnAddress) × (between_dots word.now ≡ word.now ∷ [])) }
 {
     let (part, rest) = cut_dot(word);
     match rest.split_first() {
@@ -49,7 +51,7 @@ fn join(first: u8, second: u8, third: u8, fourth: u8) -> Address
     Address(u32::from_be_bytes([first, second, third, fourth]))
 }
 
-// The address that a word is.
+/// The address that a word is: four numbers, each at most 255, with dots between them.
 #[tactic(auto, using(crate::proofs::Dots::last_part))]
 pub fn read_address(word: &[u8]) -> Result<Address, Cause>
     ensures { result ≡ address_read word.now }

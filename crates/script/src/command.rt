@@ -4,20 +4,22 @@ ghost use Rattle.script.specs.Turns.{as_command};
 
 use text::Address;
 
+/// A command of a script; its numbers are below the limits that it was read with.
 #[derive(Clone, Copy, Debug, PartialEq, Eq)]
 pub enum Command {
-    // the link of two networks comes up or goes down
+    /// the link of two networks comes up or goes down
     Turn { first: u8, second: u8, up: bool },
-    // `to` hears the oldest thing in flight from `from`
+    /// `to` hears the oldest thing in flight from `from`
     Hear { from: u8, to: u8 },
-    // the people of a network send a packet
+    /// the people of a network send a packet
     Send { network: u8, address: Address },
+    /// it is shown what each network goes by for a block
     Show { block: u16 },
-    // everything that is in flight is heard
+    /// everything that is in flight is heard
     Rest,
 }
 
-// The link of two networks comes up or goes down.
+/// The link of two networks comes up or goes down.
 #[derive(Clone, Copy, Debug, PartialEq, Eq)]
 pub struct Turn {
     pub first: u8,
@@ -37,7 +39,7 @@ impl From<Turn> for Command {
     }
 }
 
-// The numbers of networks are below `networks`, those of blocks below `blocks`.
+/// The numbers of networks are below `networks`, those of blocks below `blocks`.
 #[derive(Clone, Copy)]
 pub struct Limits {
     pub networks: u8,

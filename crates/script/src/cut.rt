@@ -32,7 +32,8 @@ pub(crate) fn content(line: &[u8]) -> &[u8]
 
 // The first word, and what follows it.
 pub(crate) fn split_word(bytes: &[u8]) -> Option<(&[u8], &[u8])>
-    ensures { MatchOption result (words bytes.now ≡ []) (λ p. words bytes.now ≡ p.0.now ∷ words p.1.now) }
+    ensures { MatchOption result (words bytes.now ≡ [])
+        (λ p. words bytes.now ≡ p.0.now ∷ words p.1.now) }
 {
     let (_blanks, solid) = cut(bytes, |byte| !is_blank(byte));
     if solid.is_empty() {

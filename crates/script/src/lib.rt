@@ -1,4 +1,4 @@
-// Scripts: text with one command to a line, read exactly.
+//! Scripts: text with one command to a line, read exactly.
 #![tactic(auto)]
 
 mod addresses;

@@ -15,7 +15,7 @@ pub(crate) fn network(number: u16, networks: u8) -> Result<u8, Cause>
     }
 }
 
-// Of some networks the one that a word is the number of.
+/// The network that a word of digits is the number of, if it is below `networks`.
 pub fn read_network(word: &[u8], networks: u8) -> Result<u8, Cause>
     ensures { result ≡ network_named networks word.now }
 {

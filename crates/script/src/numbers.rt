@@ -1,5 +1,5 @@
 // Numbers in a script: words of digits.
-ghost use Rattle.std.specs.Prelude.{◌≡◌, ◌+◌, ◌*◌, min};
+ghost use Rattle.std.specs.Prelude.{◌≡◌, ◌+◌, ◌*◌};
 ghost use Rattle.std.specs.Option.{ok_or, option_map};
 ghost use Rattle.script.specs.declared.cause.Cause.TheVariants.{NotANumber};
 ghost use Rattle.script.specs.Digits.{capped, value as value_of};
@@ -8,7 +8,7 @@ use crate::cause::Cause;
 
 // A number with one digit more, or 65535 where it is more.
 fn with_digit(number: u16, digit: u8) -> u16
-    ensures { result ≡ min (number * 10 + digit) 65535 }
+    ensures { result ≡ capped (number * 10 + digit) }
 {
     number.saturating_mul(10).saturating_add(u16::from(digit))
 }

@@ -4,7 +4,7 @@ ghost use Rattle.std.specs.Prelude.{◌+◌, ◌^◌, ◌<◌, length};
 mod methods;
 mod taking;
 
-// Each line has a byte, so that their number fits.
+/// Reads a script, or a list of turns, line by line.
 #[derive(Drop)]
 pub struct Script<'a> {
     rest: &'a [u8],

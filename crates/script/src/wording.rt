@@ -1,6 +1,6 @@
 // A faulty line in words.
 ghost use Rattle.std.specs.Prelude.{◌≡◌, Some};
-ghost use Rattle.script.specs.Faults.{number};
+ghost use Rattle.script.specs.Number.{number};
 ghost use Rattle.script.specs.Words.{cause_words, line_words};
 
 use crate::cause::Cause;
@@ -25,7 +25,7 @@ impl Numbered for Cause {
 }
 
 impl Cause {
-    // The cause in words. It stays beside `Display`, which prints it, since it can't fail.
+    /// The cause in words, as `Display` prints it.
     pub fn text(self) -> &'static str
         ensures { result.now ≡ cause_words self }
     {
@@ -52,7 +52,7 @@ impl fmt::Display for Cause {
 
 impl Error for Cause {}
 
-// A line of a script, counted from 1.
+/// A line of a script, counted from 1.
 #[derive(Clone, Copy, Debug)]
 pub struct Line(pub usize);
 

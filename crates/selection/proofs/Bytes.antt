@@ -7,6 +7,7 @@ use Rattle.std.proofs.lemmas.List.{ext_get_or, get_or-take, nil_from_length}
 use Rattle.std.proofs.lemmas.Bool.{cases_eq, cases_lt, cond-false, cond-true, eq-eqb, ne_eqb}
 use Rattle.std.proofs.lemmas.Option.{none-some, same_Some}
 use Rattle.selection.proofs.Lengths.{length_path}
+use Rattle.model.specs.Paths.{path_over}
 use Rattle.selection.specs.Laws.{SameBytes}
 use Rattle.selection.specs.Paths.{path_of, row_at}
 use Rattle.selection.specs.Rows.{Full, Padded, Wide, said}
@@ -14,16 +15,16 @@ use Rattle.selection.specs.declared.table.row.Row.{Row}
 use mathlib.Core.HLevel.{is_prop→PathP}
 
 said_nothing : (p : List ℕ) → length p ≡ 0 → said p ≡ None
-said_nothing p e = cond-true (eqb (length p) 0) None (Some p) (eq-eqb (length p) 0 e)
+said_nothing p e = cond-true (eqb (length p) 0) None (Some (path_over p)) (eq-eqb (length p) 0 e)
 
-said_path : (p : List ℕ) → (length p ≡ 0 → ⊥) → said p ≡ Some p
-said_path p ne = cond-false (eqb (length p) 0) None (Some p) (ne_eqb (length p) 0 ne)
+said_path : (p : List ℕ) → (length p ≡ 0 → ⊥) → said p ≡ Some (path_over p)
+said_path p ne = cond-false (eqb (length p) 0) None (Some (path_over p)) (ne_eqb (length p) 0 ne)
 
 same_said : (p q : List ℕ) → said p ≡ said q → p ≡ q
 same_said p q e =
     ⊎_elim
-    (λ a. ⊎_elim (λ b. nil_from_length p a ∙ sym (nil_from_length q b)) (λ b. absurd (none-some q (sym (said_nothing p a) ∙ e ∙ said_path q b))) (cases_eq (length q) 0))
-    (λ a. ⊎_elim (λ b. absurd (none-some p (sym (said_nothing q b) ∙ sym e ∙ said_path p a))) (λ b. same_Some p q (sym (said_path p a) ∙ e ∙ said_path q b)) (cases_eq (length q) 0))
+    (λ a. ⊎_elim (λ b. nil_from_length p a ∙ sym (nil_from_length q b)) (λ b. absurd (none-some (path_over q) (sym (said_nothing p a) ∙ e ∙ said_path q b))) (cases_eq (length q) 0))
+    (λ a. ⊎_elim (λ b. absurd (none-some (path_over p) (sym (said_nothing q b) ∙ sym e ∙ said_path p a))) (λ b. ap (λ x. x.networks) (same_Some (path_over p) (path_over q) (sym (said_path p a) ∙ e ∙ said_path q b))) (cases_eq (length q) 0))
     (cases_eq (length p) 0)
 
 same_row : (r s : Row) → path_of r ≡ path_of s → r ≡ s
@@ -37,7 +38,7 @@ same_row r s e =
     }
   where
     path : take r.length r.networks ≡ take s.length s.networks
-    path = same_said _ _ (ap (λ l. cond (eqb l 0) None (Some (take r.length r.networks))) (length_path r) ∙ e ∙ sym (ap (λ l. cond (eqb l 0) None (Some (take s.length s.networks))) (length_path s)))
+    path = same_said _ _ (ap (λ l. cond (eqb l 0) None (Some (path_over (take r.length r.networks)))) (length_path r) ∙ e ∙ sym (ap (λ l. cond (eqb l 0) None (Some (path_over (take s.length s.networks)))) (length_path s)))
 
     size : r.length ≡ s.length
     size = sym (length_path r) ∙ ap length path ∙ length_path s

@@ -1,6 +1,5 @@
 pub mod Best
 mod Bytes
-pub mod Chosen
 mod Compared
 pub mod Lengths
 pub mod Past

@@ -1,10 +1,11 @@
 -- What the rows of a table of paths say once one is written. Assumes nothing.
-use Rattle.std.proofs.Common.{◌≡◌, ℕ, zero, suc, ◌<◌, cond, ◌&&◌, eqb, List, [], ◌∷◌, length, get_or, set, replicate, nat_lt, false, None, Some, Option, option_and_then, slice_index, sym, refl, ⊎_elim, arith}
+use Rattle.std.proofs.Common.{◌≡◌, ℕ, zero, suc, ◌<◌, cond, ◌&&◌, eqb, List, [], ◌∷◌, length, get_or, set, replicate, nat_lt, false, None, Some, option_and_then, slice_index, sym, refl, ⊎_elim, arith}
 use Rattle.std.specs.List.{slice_get}
 use Rattle.std.proofs.lemmas.Bool.{cases_lt, cond-false}
 use Rattle.std.proofs.lemmas.Bool.Decides.{nat_tests}
 use Rattle.std.proofs.lemmas.List.{get_or_past, get_or-replicate, length-replicate}
 use Rattle.std.proofs.lemmas.Option.{slice_get_read}
+use Rattle.model.specs.Selection.{Said}
 use Rattle.selection.proofs.Past.{none_there}
 use Rattle.selection.specs.Paths.{path_of, rows_of}
 use Rattle.selection.specs.Rows.{Wide, with_row}
@@ -19,7 +20,7 @@ slice_get-set (y ∷ xs) (suc p) zero x h = sym (cond-false (eqb 0 (suc p)) (Som
 slice_get-set (y ∷ xs) (suc p) (suc q) x h = let e = slice_get-set xs p q x (omega arith) in grind (arith, nat_tests, e)
 
 -- the rows after one of a block was written
-pub row_written : (blocks : List (List Row)) (block neighbour : ℕ) (rows : List Row) (new : Row) (says : Option (List ℕ)) → rows ≡ get_or blocks block rows → block < length blocks → neighbour < length rows → path_of new ≡ says → (b j : ℕ) → rows_of (set blocks block (set rows neighbour new)) b j ≡ with_row (rows_of blocks) block neighbour says b j
+pub row_written : (blocks : List (List Row)) (block neighbour : ℕ) (rows : List Row) (new : Row) (says : Said) → rows ≡ get_or blocks block rows → block < length blocks → neighbour < length rows → path_of new ≡ says → (b j : ℕ) → rows_of (set blocks block (set rows neighbour new)) b j ≡ with_row (rows_of blocks) block neighbour says b j
 row_written blocks block neighbour rows new says at hb hn is b j =
     let here = slice_get_read blocks (length blocks) block rows refl hb at in
     let e = slice_get-set blocks block b (set rows neighbour new) hb in

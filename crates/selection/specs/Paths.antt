@@ -3,13 +3,14 @@ use Rattle.std.specs.Prelude.{ℕ, List, Option, option_and_then, slice_get, vec
 use Rattle.selection.specs.Rows.{Rows, told}
 use Rattle.selection.specs.declared.table.PathTable.{PathTable}
 use Rattle.selection.specs.declared.table.row.Row.{Row}
+use Rattle.model.specs.Selection.{Said}
 
 -- how many blocks there are
 abbrev pub count : PathTable → ℕ
 count t = vec_len t.blocks
 
 -- the path that a row says, if any
-abbrev pub path_of : Row → Option (List ℕ)
+abbrev pub path_of : Row → Said
 path_of r = told r.length r.networks
 
 -- the row for a block and a neighbour, if there is one

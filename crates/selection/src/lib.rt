@@ -1,4 +1,4 @@
-// What a network was told of paths, and which of them it goes by.
+//! What a network was told of paths, and which of them it goes by.
 #![tactic(auto)]
 
 mod laws;
@@ -7,13 +7,12 @@ mod route;
 mod selecting;
 mod set;
 mod table;
+mod world;
 
-pub use laws::{
-    chosen_is_candidate, customers_decide, home_by_its_own, none_before_chosen,
-    nothing_without_candidate, only_choice, rank_decides, same_rows_same_bytes, strict_order,
-};
+pub use laws::{customers_decide, same_rows_same_bytes};
 pub use node::Node;
 pub use route::Route;
-pub use selecting::{is_up, passes, select};
-pub use set::NetworkSet;
+pub use selecting::{passes, select};
+pub use set::{NetworkSet, is_marked};
 pub use table::{MOST_BLOCKS, PathTable};
+pub use world::World;

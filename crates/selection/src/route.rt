@@ -1,11 +1,12 @@
-// What a network goes by for a block. An enum of its own, and no `Option` of a path: nothing, its own home and a
-// neighbour's path are three cases, a form that the project asks for (docs/DECISIONS.md).
+//! What a network goes by for a block.
+
+/// What a network goes by for a block: nothing, its own home, or a neighbour's path.
 #[derive(Clone, Copy, Debug)]
 pub enum Route<'a> {
-    // Nothing.
+    /// Nothing.
     Nothing,
-    // Its own home.
+    /// Its own home.
     Local,
-    // The path that a neighbour told: the next network first, the home last.
+    /// The path that a neighbour told: the next network first, the home last.
     Via { neighbour: u8, path: &'a [u8] },
 }

@@ -1,8 +1,10 @@
-// Which path a network goes by.
-ghost use Rattle.std.specs.Prelude.{◌≡◌, false, [], ◌∷◌, length, slice_index_or};
+//! Which path a network goes by.
+ghost use Rattle.std.specs.Prelude.{◌≡◌};
 ghost use Rattle.std.specs.Option.{option_map};
-ghost use Rattle.selection.specs.Choosing.{candidate as candidate_of, choose, meaning, passes as passes_by, rank as rank_of, shorter};
-ghost use Rattle.selection.specs.Nodes.{link_up, networks_around, relation_to};
+ghost use Rattle.model.specs.Selection.{keys as keys_of, rank as rank_of};
+ghost use Rattle.model.specs.Paths.{passes as passes_by, path_over};
+ghost use Rattle.selection.specs.Meaning.{meaning};
+ghost use Rattle.selection.specs.Nodes.{candidate_at, relation_to, selected_at};
 ghost use Rattle.selection.specs.Paths.{row};
 
 use crate::node::Node;
@@ -11,7 +13,7 @@ use crate::set::is_marked;
 use crate::table::PathTable;
 use relations::Relation;
 
-// Customers come before peers, and peers before providers. A number, since `keys` compares it beside two more.
+// Customers come before peers, and peers before providers.
 fn rank(relation: Relation) -> usize
     ensures { result ≡ rank_of relation }
 {
@@ -23,26 +25,20 @@ fn rank(relation: Relation) -> usize
     }
 }
 
-// Whether the path passes the network `me`.
+/// Whether the path passes the network `me`.
 pub fn passes(path: &[u8], me: u8) -> bool
     ensures { result ≡ passes_by me path.now }
 {
     path.contains(&me)
 }
 
-// Whether the link to the neighbour is up: `is_marked`, by the name that other crates call.
-pub fn is_up(up: &[bool], neighbour: u8) -> bool
-    ensures { result ≡ slice_index_or up.now neighbour false }
-{
-    is_marked(up, neighbour)
-}
-
 // The path by `neighbour` that the network may go by, if any.
 fn candidate<'a>(node: Node, received: &'a PathTable, block: u16, neighbour: u8) -> Option<&'a [u8]>
-    ensures { option_map (λ x. x.now) result ≡ candidate_of (relation_to node.entry) (link_up node.entry) node.entry.me (λ j. row received.now block j) neighbour }
+    ensures { option_map (λ x. path_over x.now) result
+        ≡ candidate_at node.entry (row received.now) block neighbour }
 {
-    let relation = node.relations.relation(node.me, neighbour);
-    if !relation.is_related() || !is_up(node.up, neighbour) {
+    let relation = node.world.relations.relation(node.me, neighbour);
+    if !relation.is_related() || !is_marked(node.up, neighbour) {
         return None;
     }
     let path = received.path(block, neighbour)?;
@@ -51,28 +47,29 @@ fn candidate<'a>(node: Node, received: &'a PathTable, block: u16, neighbour: u8)
 
 // What candidates are compared by, the first difference decides: the rank, the length, the number.
 fn keys(node: Node, neighbour: u8, path: &[u8]) -> [usize; 3]
-    ensures { result ≡ rank_of (relation_to node.entry neighbour) ∷ length path.now ∷ neighbour ∷ [] }
+    ensures { result ≡ keys_of (relation_to node.entry) neighbour (path_over path.now) }
 {
-    let relation = node.relations.relation(node.me, neighbour);
+    let relation = node.world.relations.relation(node.me, neighbour);
     [rank(relation), path.len(), neighbour as usize]
 }
 
-// What the network goes by for the block of `home`.
-pub fn select<'a>(node: Node, received: &'a PathTable, block: u16, home: u8) -> Route<'a>
-    ensures { meaning result ≡ choose shorter (relation_to node.entry) (link_up node.entry) node.entry.me home (λ j. row received.now block j) (networks_around node.entry) }
+/// What the network goes by for a block: its own home, or the best of what its neighbours told it.
+pub fn select<'a>(node: Node, received: &'a PathTable, block: u16) -> Route<'a>
+    ensures { meaning result ≡ selected_at node.entry (row received.now) block }
 {
-    if node.me == home {
+    if node.world.is_home(block, node.me) {
         return Route::Local;
     }
     let mut best = Route::Nothing;
-    'candidates: for j in 0..node.relations.networks() {
+    'candidates: for j in 0..node.world.relations.networks() {
         let Some(path) = candidate(node, received, block, j) else {
             continue;
         };
         let new = keys(node, j, path);
         if let Route::Via { neighbour, path } = best {
             let old = keys(node, neighbour, path);
-            // Left by the label at the first difference, a form that the project asks for (docs/DECISIONS.md).
+            // Left by the label at the first difference, a form that the project asks for
+            // (docs/DECISIONS.md).
             for (new, old) in new.iter().zip(&old) {
                 if new > old {
                     continue 'candidates;

@@ -1,7 +1,8 @@
-// settle TIES: says whether ties are sound. settle TIES BLOCKS LINES: prints the stable routing for each block.
+//! settle TIES: says whether ties are sound. settle TIES BLOCKS LINES: prints the stable routing for each block.
 #![tactic(auto)]
 
-use settling::{Failure, check, perform, words};
+use console::{inputs, print, status, words};
+use settling::{Failure, Told, check, settle};
 use std::process::ExitCode;
 
 const USAGE: &str = "usage: settle TIES [BLOCKS LINES]   (--help says more)";
@@ -23,13 +24,25 @@ the first and the last address (four bytes each) and the home. Blocks stand in
 rising order of the first address, and no two overlap; the first is block 0.
 
 LINES is text with one command to a line; what follows # is a comment. At first
-every link is down.
-  turn I J up     the link of I and J comes up
+every line is down.
+  turn I J up     the line of I and J comes up
   turn I J down   it goes down
 
-A network goes by its own home, by a neighbour over a path, or by nothing:
-  unpaid          some way of links that are up leads to the home
+A network goes by its own home, by a neighbour over a road, or by nothing:
+  unpaid          some way of lines that are up leads to the home
   cut off         none does
+
+Words:
+  network  a village's box, with a number from 0
+  tie      between two networks: one is the other's customer and that one its
+           provider, or they are peers; a neighbour is a network that is tied
+  ring     of customers: each a customer of the next, the last of the first
+  line     joins two tied networks; it is up or down
+  block    addresses with one home, a network
+  road     the networks on the way to the home, the next one first
+  way      of lines: one after the other, from a network to the home
+  paid     a road up to providers, then at most once over to a peer, then down
+           to customers; no network goes by another
 
 A fault has a number and a place: ties at head, tie K from 0 or end; blocks at
 head, block K from 0 or end; line K from 1.
@@ -41,30 +54,21 @@ head, block K from 0 or end; line K from 1.
       above last; more than 256 blocks
    4  blocks that overlap
    5  a ring of customers
-  10  no link between these networks
+  10  no line between these networks
 ";
 
 fn run(rt: &HostRuntime) -> Result<(), Failure> {
     let words = words(rt)?;
-    // how many of the words stand for standard input
-    let inputs = words.iter().filter(|word| word.as_str() == "-").count();
     match words.as_slice() {
-        [word] if word.as_str() == "--help" => Ok(rt.print(HELP)?),
+        [word] if word.as_str() == "--help" => print(rt, HELP),
         [ties] => check(rt, ties.as_str()),
-        [ties, blocks, lines] if inputs < 2 => {
-            perform(rt, ties.as_str(), blocks.as_str(), lines.as_str())
+        [ties, blocks, lines] if inputs(&words) < 2 => {
+            settle(rt, ties.as_str(), blocks.as_str(), lines.as_str())
         }
         _ => Err(Failure::Usage(USAGE)),
     }
 }
 
-// As in `rehearse`: one function for both, generic over the failure and with the program's name, would be as long.
 fn main(rt: HostRuntime) -> ExitCode {
-    match run(&rt) {
-        Ok(()) => ExitCode::SUCCESS,
-        Err(failure) => {
-            let _ = eprintln!(rt; "settle: {failure}");
-            ExitCode::FAILURE
-        }
-    }
+    status(&rt, "settle", run(&rt).map_err(Told))
 }

@@ -1,10 +1,8 @@
-// What the programs that print stable routings share: ties that are checked, and blocks whose routing is printed.
+//! What `settle` and the gate's program share: ties that are checked, and blocks whose stable routing is printed.
 #![tactic(auto)]
 
-mod failure;
-mod loading;
 mod performing;
+mod refused;
 
-pub use failure::Failure;
-pub use loading::words;
-pub use performing::{check, perform};
+pub use performing::{check, settle};
+pub use refused::{Failure, Refused, Told};

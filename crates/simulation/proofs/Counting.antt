@@ -4,17 +4,18 @@ use lib.Seq.{drop-nil}
 use Rattle.std.specs.List.{filter}
 use Rattle.std.proofs.lemmas.Bool.{and_parts, ltb-true}
 use Rattle.std.proofs.lemmas.Bool.Decides.{nat_tests}
-use Rattle.links.specs.Hearing.{unless}
-use Rattle.links.specs.Local.{Local, gather, outbox, sends, tells_now}
-use Rattle.links.specs.Run.{Item, update}
-use Rattle.links.specs.World.{World}
-use Rattle.links.specs.declared.fault.Fault.{Fault}
-use Rattle.convergence.specs.Measure.{sum}
+use Rattle.model.specs.Hearing.{unless}
+use Rattle.model.specs.Local.{Local, outbox, sends, tells_now}
+use Rattle.model.specs.Lists.{gather}
+use Rattle.model.specs.Run.{Item, update}
+use Rattle.model.specs.World.{World}
+use Rattle.model.specs.declared.fault.Fault.{Fault}
+use Rattle.model.specs.Measure.{sum}
 use Rattle.convergence.proofs.Sums.{sum_add, sum_none, sum_place, sum_same}
-use Rattle.mail.specs.Posting.{is_update}
-use Rattle.mail.specs.Posts.{Post, between, cut, flying, goes, inside, mail}
+use Rattle.simulation.specs.Posting.{is_update}
+use Rattle.simulation.specs.Posts.{Post, between, cut, flying, goes, inside, mail}
 use Rattle.simulation.specs.Steps.{updates_in}
-use Rattle.mail.proofs.Mailed.{mail_outbox}
+use Rattle.simulation.proofs.Mailed.{mail_outbox}
 
 one_more : {X : Type 0} (b : Bool) (x : X) (xs : List X) → length (cond b (x ∷ xs) xs) ≡ cond b 1 0 + length xs
 one_more true x xs = omega arith

@@ -3,18 +3,20 @@ use Rattle.std.proofs.Common.{◌≡◌, ℕ, zero, suc, ◌+◌, ◌≤◌, Boo
 use lib.Seq.{split_at}
 use Rattle.std.proofs.lemmas.Bool.{and_parts, cases_Bool, cases_eq, cases_lt, cond-false, cond-true, eq-eqb, eqb-true, le-ltb, ne_eqb}
 use Rattle.std.proofs.lemmas.Bool.Decides.{nat_tests}
-use Rattle.advertisement.specs.Sayings.{same_saying}
-use Rattle.links.specs.Hearing.{unless}
-use Rattle.links.specs.Local.{Local, gather, outbox, sends, sent, tells_now}
-use Rattle.links.specs.Packets.{Passed, arrived, dropped, handed}
-use Rattle.links.specs.Run.{Item, update, packet, appended, onward, queued, updates}
-use Rattle.links.specs.World.{World}
-use Rattle.links.specs.declared.fault.Fault.{Fault}
+use Rattle.model.specs.Export.{same_saying}
+use Rattle.model.specs.Hearing.{unless}
+use Rattle.model.specs.Local.{Local, outbox, sends, sent, tells_now}
+use Rattle.model.specs.Lists.{gather}
+use Rattle.model.specs.Packets.{Forwarded, arrived, dropped, handed}
+use Rattle.model.specs.Run.{Item, update, packet, onward, updates}
+use Rattle.model.specs.Steps.{appended, queued}
+use Rattle.model.specs.World.{World}
+use Rattle.model.specs.declared.fault.Fault.{Fault}
 use Rattle.convergence.proofs.Places.{crosses, emptied, queued_is}
-use Rattle.mail.specs.Posts.{Post, between, cut, flying, goes, mail, passed_on}
-use Rattle.relations.proofs.Gathered.{gather_none, gather_one, gather_same}
-use Rattle.mail.proofs.Mailed.{mail_outbox, map_cond, map_gather, one}
-use Rattle.mail.proofs.Posted.{Front, between_append}
+use Rattle.simulation.specs.Posts.{Post, between, cut, flying, goes, mail, passed_on}
+use Rattle.model.proofs.Gathered.{gather_none, gather_one, gather_same}
+use Rattle.simulation.proofs.Mailed.{mail_outbox, map_cond, map_gather, one}
+use Rattle.simulation.proofs.Posted.{Front, between_append}
 
 pub between_gather : (a c : ℕ) (g : ℕ → List Post) (m : ℕ) → between a c (gather g m) ≡ gather (λ k. between a c (g k)) m
 between_gather a c g zero = refl
@@ -80,7 +82,7 @@ pub flying_appended : (ps qs : List Post) (j : ℕ) (more : ℕ → List Item) �
 flying_appended ps qs j more h a c = between_append a c ps qs ∙ ap (λ l. between a c ps ++ l) (h a c) ∙ after (eqb a j) (between a c ps) (more c)
 
 -- a packet that is handed on goes to one neighbour
-pub between_passed : (i : ℕ) (became : Passed) (a c : ℕ) → between a c (passed_on i became) ≡ cond (eqb a i) (onward became c) []
+pub between_passed : (i : ℕ) (became : Forwarded) (a c : ℕ) → between a c (passed_on i became) ≡ cond (eqb a i) (onward became c) []
 between_passed i arrived a c = sym (blank (eqb a i))
 between_passed i (dropped why) a c = sym (blank (eqb a i))
 between_passed i (handed j p) a c = (λ x. cond (turned_ends i a j c x) (packet p ∷ []) []) ∙ both_ends (eqb a i) (eqb c j) (packet p)

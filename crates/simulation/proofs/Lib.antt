@@ -1,8 +1,12 @@
+mod Enumerated
+mod Posted
+mod Mailed
+mod Stepping
 mod Counted
 mod Flights
 mod Counting
 mod Wholes
-pub mod Placing
+mod Placing
 mod Readings
 mod Reaching
 mod Fresh

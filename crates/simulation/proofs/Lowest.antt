@@ -4,17 +4,17 @@ use Rattle.std.specs.Ordering.{is_lt, nat_cmp, ordering_then}
 use Rattle.std.specs.declared.cmp.Ordering.TheVariants.{Less, Equal, Greater}
 use Rattle.std.proofs.lemmas.Bool.{and_parts, cases_Bool, eq-eqb}
 use Rattle.std.proofs.lemmas.Bool.Decides.{nat_tests}
-use Rattle.mail.specs.Posting.{Oldest, blank}
-use Rattle.mail.specs.Posts.{Post, between, goes, inside, meant, posts}
+use Rattle.simulation.specs.Posting.{Oldest, blank}
+use Rattle.simulation.specs.Posts.{Post, between, goes, inside, meant, posts}
 use Rattle.simulation.specs.Resting.{Foremost, LowestEnds, LowestOf, lower}
 use Rattle.std.specs.Option.{MatchOption}
 use Rattle.relations.specs.Sound.{networks}
-use Rattle.mail.proofs.Posted.{oldest_between, oldest_ends, oldest_front}
+use Rattle.simulation.proofs.Posted.{oldest_between, oldest_ends, oldest_front}
 use Rattle.simulation.proofs.Wholes.{heard_some}
 use Rattle.simulation.specs.Simulated.{letter_of, state_of, world_of}
 use Rattle.simulation.specs.declared.simulation.Simulation.{Simulation}
 use Rattle.simulation.specs.Steps.{both}
-use Rattle.mail.specs.declared.letter.Letter.{Letter}
+use Rattle.simulation.specs.declared.letter.Letter.{Letter}
 
 -- pairs are compared as the rules have it
 is_lower : (f t i j : ℕ) → is_lt (ordering_then (nat_cmp f i) (nat_cmp t j)) ≡ lower f t i j

@@ -1,19 +1,20 @@
 -- Hearing until nothing is in flight. Assumes nothing.
-use Rattle.std.specs.Prelude.{◌≡◌, ℕ, ◌<◌, Bool, true, false, ◌&&◌, ◌||◌, List, [], ◌++◌, map, length, Some, None, Option, ◌==◌, nat_lt, slice_index_or, vec_items}
+use Rattle.std.specs.Prelude.{◌≡◌, ℕ, ◌<◌, Bool, true, false, ◌&&◌, ◌||◌, List, [], ◌++◌, map, length, Some, None}
+use Rattle.std.specs.Prelude.{Option, ◌==◌, nat_lt, slice_index_or, vec_items}
 use Rattle.std.specs.List.Sorted.{IsPermutation}
 use Rattle.std.specs.Ordering.{is_lt, nat_cmp, ordering_then}
-use Rattle.links.specs.Promise.{Lookup}
-use Rattle.links.specs.Run.{State}
-use Rattle.links.specs.World.{World}
-use Rattle.convergence.specs.Levels.{Heights}
-use Rattle.convergence.specs.Measure.{left}
-use Rattle.forwarding.specs.Ends.{Ended, end_heard, ends}
-use Rattle.forwarding.specs.Passing.{ended_of}
+use Rattle.model.specs.Packets.{Lookup}
+use Rattle.model.specs.Run.{State}
+use Rattle.model.specs.World.{World}
+use Rattle.model.specs.Levels.{Heights}
+use Rattle.model.specs.Measure.{left}
+use Rattle.model.specs.Ends.{Ended, end_heard, ends}
+use Rattle.forwarding.specs.Forwarding.{ended_of}
 use Rattle.forwarding.specs.declared.packet.Ending.{Ending}
-use Rattle.delivery.specs.Flight.{Heard, fates}
-use Rattle.mail.specs.Posting.{Oldest, blank}
-use Rattle.mail.specs.Posts.{Post, between, posts}
-use Rattle.mail.specs.declared.letter.Letter.{Letter}
+use Rattle.model.specs.Flight.{Heard, fates}
+use Rattle.simulation.specs.Posting.{Oldest, blank}
+use Rattle.simulation.specs.Posts.{Post, between, posts}
+use Rattle.simulation.specs.declared.letter.Letter.{Letter}
 use Rattle.simulation.specs.Simulated.{letter_of, state_of, world_of}
 use Rattle.simulation.specs.declared.simulation.Simulation.{Simulation}
 use Rattle.simulation.specs.Steps.{both, hearing}
@@ -40,7 +41,16 @@ pub record Foremost (x : Simulation) (k : ℕ) : Type 0 where
 
 -- these are the ends of a letter, and no letter has lower ones, as pairs are compared
 abbrev pub LowestEnds : List Letter → ℕ × ℕ → Type 0
-LowestEnds ls m = ((k : ℕ) × (k < length ls) × ((slice_index_or ls k blank).from ≡ m.0) × ((slice_index_or ls k blank).to ≡ m.1)) × ((k : ℕ) → k < length ls → is_lt (ordering_then (nat_cmp (slice_index_or ls k blank).from m.0) (nat_cmp (slice_index_or ls k blank).to m.1)) ≡ false)
+LowestEnds ls m =
+    ((k : ℕ) × (k < length ls) × ((slice_index_or ls k blank).from ≡ m.0) × ((slice_index_or ls k blank).to ≡ m.1)) ×
+    ((k : ℕ) → k < length ls →
+    is_lt
+    (ordering_then (nat_cmp (slice_index_or ls k blank).from m.0)
+    (nat_cmp (slice_index_or ls k blank).to m.1)) ≡ false)
+
+-- the ends that came are told behind those that were told before
+abbrev pub Told : List Ending → List Ending → List Ended → Type 0
+Told before after came = map ended_of after ≡ map ended_of before ++ came
 
 -- the oldest of the lowest pair that has something in flight was heard, and this end came
 pub record NextHeard (w : World) (at : Lookup) (s t : State) (end : Option Ended) : Type 0 where
@@ -56,23 +66,24 @@ pub record NextHeard (w : World) (at : Lookup) (s t : State) (end : Option Ended
 pub record NextTold (w : World) (at : Lookup) (s t : State) (before after : List Ending) : Type 0 where
   pub end : Option Ended
   pub heard : NextHeard w at s t end
-  pub told : map ended_of after ≡ map ended_of before ++ ends end
+  pub told : Told before after (ends end)
 
 -- from one state to another by any number of such hearings, and the ends that came, one after the other
 pub data Hearings (w : World) (at : Lookup) (s : State) : State → List Ended → Type 0 where
   none : Hearings w at s s []
-  more : {t u : State} {es : List Ended} {end : Option Ended} → Hearings w at s t es → NextHeard w at t u end → Hearings w at s u (es ++ ends end)
+  more : {t u : State} {es : List Ended} {end : Option Ended} → Hearings w at s t es → NextHeard w at t u end →
+      Hearings w at s u (es ++ ends end)
 
 -- so many hearings, and their ends are told behind those that were told before
 pub record HeardAll (w : World) (at : Lookup) (s t : State) (before after : List Ending) : Type 0 where
   pub came : List Ended
   pub hearings : Hearings w at s t came
-  pub told : map ended_of after ≡ map ended_of before ++ came
+  pub told : Told before after came
 
 -- the ends of all packets in flight, each once and by its fate, are told behind those that were told before
 pub record FatesTold (w : World) (at : Lookup) (s : State) (before after : List Ending) : Type 0 where
   pub came : List Ended
-  pub told : map ended_of after ≡ map ended_of before ++ came
+  pub told : Told before after came
   pub fates : ∥ IsPermutation (fates w at s) came ∥₁
 
 -- such hearings are hearings in some order

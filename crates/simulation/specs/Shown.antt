@@ -1,9 +1,9 @@
 -- What each network goes by in a state, and why a step is not played in words. Assumes nothing.
 use Rattle.std.specs.Prelude.{ℕ, cond, ◌&&◌, List, codes, nat_lt}
-use Rattle.selection.specs.Choosing.{Choice, nothing}
-use Rattle.links.specs.Local.{choice}
-use Rattle.links.specs.Run.{State}
-use Rattle.links.specs.World.{World}
+use Rattle.model.specs.Selection.{Choice, nothing}
+use Rattle.model.specs.Local.{choice}
+use Rattle.model.specs.Run.{State}
+use Rattle.model.specs.World.{World}
 use Rattle.simulation.specs.declared.cause.Cause.{Cause}
 use Rattle.simulation.specs.declared.cause.Cause.TheVariants.{NoSuchNetwork, NothingInFlight, NoLink, TooMany}
 use Rattle.simulation.specs.declared.cause.Refusal.{Refusal}
@@ -23,7 +23,7 @@ number TooMany = 11
 abbrev pub cause_words : Cause → List ℕ
 cause_words NoSuchNetwork = codes "a network not below n"
 cause_words NothingInFlight = codes "nothing is in flight"
-cause_words NoLink = codes "no link between these networks"
+cause_words NoLink = codes "no line between these networks"
 cause_words TooMany = codes "more updates in flight than there is room for"
 
 abbrev pub refusal_words : Refusal → List ℕ

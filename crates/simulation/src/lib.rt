@@ -1,13 +1,16 @@
-// All networks in memory: n routers, and what is in flight between them.
+//! All networks in memory: n routers, and what is in flight between them.
 #![tactic(auto)]
 
-mod aside;
 mod cause;
 mod laws;
+mod letter;
+mod network;
+mod posting;
+mod prepared;
 mod simulation;
 mod wording;
 
 pub use cause::{Cause, Refusal};
 pub use laws::rest_hears;
-pub use links::Unmade;
+pub use links::CreationError;
 pub use simulation::{MOST_BLOCKS, MOST_NETWORKS, Simulation};

@@ -1,4 +1,4 @@
-// Why a step is not played, in words.
+//! Why a step is not played, in words.
 ghost use Rattle.std.specs.Prelude.{◌≡◌, Some};
 ghost use Rattle.simulation.specs.Shown.{cause_words, number, refusal_words};
 
@@ -21,14 +21,14 @@ impl Numbered for Cause {
 }
 
 impl Cause {
-    // The cause in words. It stands beside `Display`, since it can't fail.
+    /// The cause in words, as `Display` prints it.
     pub fn text(self) -> &'static str
         ensures { result.now ≡ cause_words self }
     {
         match self {
             Cause::NoSuchNetwork => "a network not below n",
             Cause::NothingInFlight => "nothing is in flight",
-            Cause::NoLink => "no link between these networks",
+            Cause::NoLink => "no line between these networks",
             Cause::TooMany => "more updates in flight than there is room for",
         }
     }
@@ -45,7 +45,7 @@ impl fmt::Display for Cause {
 impl Error for Cause {}
 
 impl Refusal {
-    // The refusal in words. It stands beside `Display`, since it can't fail.
+    /// The refusal in words, as `Display` prints it.
     pub fn text(self) -> &'static str
         ensures { result.now ≡ refusal_words self }
     {

@@ -1,2 +1,4 @@
 pub mod Lines
 pub mod Told
+pub mod Sizes
+pub mod Lowest

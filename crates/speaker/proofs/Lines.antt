@@ -1,11 +1,11 @@
 -- Which fault of a turn is told. Assumes nothing.
 use Rattle.std.proofs.Common.{◌≡◌, ℕ, Bool, true, false, cond, not, ◌||◌, Some, None, Option, refl, sym, ap, ◌∙◌, true≢false, ◌==◌, nat_le, arith}
 use Rattle.std.specs.Option.{option_map}
-use Rattle.selection.specs.Choosing.{related}
-use Rattle.links.specs.World.{World}
-use Rattle.links.specs.Hearing.{turning_fault}
-use Rattle.links.specs.declared.fault.Fault.TheVariants.{NoSuchNetwork, NoLink}
-use Rattle.speaker.specs.Answers.{Astray}
+use Rattle.model.specs.Relations.{related}
+use Rattle.model.specs.World.{World}
+use Rattle.model.specs.Hearing.{turning_fault}
+use Rattle.model.specs.declared.fault.Fault.TheVariants.{NoSuchNetwork, NoLink}
+use Rattle.speaker.specs.Answers.{RefusesTurn}
 use Rattle.speaker.specs.Rule.{line_fault}
 use Rattle.speaker.specs.declared.fault.Fault.{Fault}
 use Rattle.speaker.specs.declared.fault.Fault.TheVariants.{Router, LineOfOthers}
@@ -26,10 +26,10 @@ others_asked true others untied h k = absurd (true≢false h)
 others_asked false true untied h k = refl
 others_asked false false untied h k = absurd (true≢false (sym k))
 
-pub no_network : (n j other : ℕ) → (nat_le n j || nat_le n other) ≡ true → Astray n j other (Router NoSuchNetwork)
+pub no_network : (n j other : ℕ) → (nat_le n j || nat_le n other) ≡ true → RefusesTurn n j other (Router NoSuchNetwork)
 no_network n j other h w i e = far_asked _ _ _ (ap (λ m. nat_le m j || nat_le m other) e ∙ h)
 
-pub of_others : (n j other : ℕ) → (nat_le n j || nat_le n other) ≡ false → (other == j) ≡ false → Astray n j other LineOfOthers
+pub of_others : (n j other : ℕ) → (nat_le n j || nat_le n other) ≡ false → (other == j) ≡ false → RefusesTurn n j other LineOfOthers
 of_others n j other h k w i e = others_asked _ _ _ (ap (λ m. nat_le m j || nat_le m other) e ∙ h) (ap not k)
 
 -- of a line of its own the fault is the router's

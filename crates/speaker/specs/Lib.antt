@@ -1,4 +1,5 @@
 pub mod Rule
+pub mod Number
 pub mod Words
 pub mod Telling
 pub mod Bytes

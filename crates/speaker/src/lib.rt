@@ -1,4 +1,4 @@
-// One village's router as it runs in its box: bytes in, bytes out.
+//! One village's router as it runs in its box: bytes in, bytes out. `answer` says what it does with each message.
 #![tactic(auto)]
 
 mod fault;
@@ -8,7 +8,6 @@ mod speaking;
 mod telling;
 mod turns;
 mod updates;
-mod writing;
 
 pub use fault::Fault;
 pub use refusal::Refusal;

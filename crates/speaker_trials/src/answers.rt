@@ -1,9 +1,10 @@
-// A box fed by hand: of network 1 of four, with customer 0, peer 2 and provider 3, or of network 0. Block 0, the addresses from
-// 10.0.0.0 to 10.0.0.255, is at home at 0.
+//! A box fed by hand: of network 1 of four, with customer 0, peer 2 and provider 3, or of network 0. Block 0, the
+//! addresses from 10.0.0.0 to 10.0.0.255, is at home at 0.
 use blocks::{Block, BlockList};
 use cycles::sound;
 use links::{Router, Tables};
 use relations::{Matrix, Relation, Relations};
+use selection::World;
 use speaker::{Fault, Refusal, answer, room};
 use std::test::Fail;
 use text::{Address, Numbered};
@@ -43,7 +44,11 @@ fn fed(
 ) -> Result<(Option<Result<usize, Refusal>>, Vec<u8>), Fail> {
     let ties = ties(rt)?;
     let blocks = blocks(rt)?;
-    let mut tables = Tables::new(rt.alloc(), &[0])?;
+    let world = World {
+        relations: &ties,
+        homes: blocks.homes(),
+    };
+    let mut tables = Tables::new(rt.alloc(), blocks.len())?;
     let mut router = Router::new(number);
     let mut out = Vec::with_capacity(rt.alloc(), room(1))?;
     let mut last = None;
@@ -51,7 +56,7 @@ fn fed(
         out.clear();
         let (next, answered) = answer(
             router,
-            &ties,
+            world,
             &mut tables,
             &blocks.blocks(),
             bytes,

@@ -1,4 +1,4 @@
-mod Calm
+mod Unaffected
 mod Links
 mod Looks
 mod Ranges

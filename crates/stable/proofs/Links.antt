@@ -4,6 +4,7 @@ use Rattle.std.specs.List.{slice_get}
 use Rattle.std.proofs.lemmas.Bool.Decides.{nat_tests}
 use Rattle.std.proofs.lemmas.List.{get_or_default}
 use Rattle.std.proofs.lemmas.Option.{slice_get_read}
+use Rattle.model.specs.declared.limits.TheConstants.{MOST_NETWORKS}
 use Rattle.selection.specs.Sets.{member}
 use Rattle.selection.specs.declared.set.NetworkSet.{NetworkSet}
 use Rattle.selection.proofs.Written.{slice_get-set}
@@ -25,7 +26,7 @@ same_pair : (a b i j : ℕ) → ((eqb a i && eqb b j) || (eqb a j && eqb b i)) �
 same_pair a b i j = grind (arith, nat_tests)
 
 -- one link has turned
-pub one_turned : (s : LinkSet) (i j m k : ℕ) (is_up : Bool) (new : NetworkSet) → m ≡ min i j → k ≡ max i j → i < 64 → j < 64 → ((v : ℕ) → member new v ≡ cond (eqb v k && nat_lt k 64) is_up (member (get_or s.higher m (record { marks = [] })) v)) → (a b : ℕ) → in_some (slice_get (set s.higher m new) (min a b)) (max a b) ≡ with_link (up s) i j is_up a b
+pub one_turned : (s : LinkSet) (i j m k : ℕ) (is_up : Bool) (new : NetworkSet) → m ≡ min i j → k ≡ max i j → i < MOST_NETWORKS → j < MOST_NETWORKS → ((v : ℕ) → member new v ≡ cond (eqb v k && nat_lt k MOST_NETWORKS) is_up (member (get_or s.higher m (record { marks = [] })) v)) → (a b : ℕ) → in_some (slice_get (set s.higher m new) (min a b)) (max a b) ≡ with_link (up s) i j is_up a b
 one_turned s i j m k is_up new low high hi hj is a b =
     let at : m < length s.higher = omega (arith, s.full) in
     let here = slice_get_read s.higher (length s.higher) m _ refl at (get_or_default s.higher m (record { marks = [] }) _ at) in

@@ -1,4 +1,4 @@
-// The stable routing, computed from ties, links and a home alone.
+//! The stable routing of a block, computed from ties, links and homes alone.
 #![tactic(auto)]
 
 mod linked;

@@ -1,17 +1,15 @@
-// The stable routing, which networks that look find.
+//! The stable routing, which networks that look find.
 ghost use Rattle.std.specs.Prelude.{◌≡◌, IfOk};
-ghost use Rattle.selection.specs.Choosing.{meaning};
-ghost use Rattle.selection.specs.Sets.{member};
-ghost use Rattle.stable.specs.Settling.{Settled, by_first, goes_by};
+ghost use Rattle.selection.specs.Meaning.{meaning};
+ghost use Rattle.stable.specs.Settling.{Settled, by_first, goes_by, has_way};
 
 use crate::linked::LinkSet;
 use crate::looking::Networks;
-use relations::Relations;
-use selection::{NetworkSet, PathTable, Route};
+use selection::{NetworkSet, PathTable, Route, World};
 use std::alloc::{AllocError, Global};
 
-// What every network goes by for the block of one home: what it shows, which has itself in front; and from which networks
-// some way of links that are up leads to the home.
+/// What every network goes by for a block, and from which networks some way of links that are up
+/// leads to a home of it. What each shows has itself in front.
 #[derive(Drop)]
 pub struct Routing<'a> {
     networks: Networks<'a>,
@@ -20,15 +18,15 @@ pub struct Routing<'a> {
 }
 
 impl Routing<'_> {
-    // What a network goes by; nothing where there is no such network.
+    /// What a network goes by; nothing where there is no such network.
     #[tactic(auto, unfolding(crate::specs::Settling::goes_by))]
     pub fn route(&self, network: u8) -> Route<'_>
         ensures { meaning result ≡ goes_by self.now network }
     {
-        if network >= self.networks.relations.networks() {
+        if network >= self.networks.world.relations.networks() {
             return Route::Nothing;
         }
-        if network == self.networks.home {
+        if self.networks.is_home(network) {
             return Route::Local;
         }
         match self.shown.path(0, network) {
@@ -37,9 +35,9 @@ impl Routing<'_> {
         }
     }
 
-    // Whether some way of links that are up leads from a network to the home.
+    /// Whether some way of links that are up leads from a network to a home.
     pub fn reaches(&self, network: u8) -> bool
-        ensures { result ≡ member self.now.reaching network }
+        ensures { result ≡ has_way self.now network }
     {
         self.reaching.contains(network)
     }
@@ -58,19 +56,23 @@ fn path_route(path: &[u8]) -> Route<'_>
     }
 }
 
-// The stable routing of networks for the block of a home, where some links are up.
+/// The stable routing of a block, where some links are up: what networks find that look again and
+/// again. For a block that there is not all go by nothing.
+///
+/// # Errors
+/// Memory could not be had.
 pub fn settle<'a>(
-    relations: &'a Relations,
+    world: World<'a>,
     links: &'a LinkSet,
-    home: u8,
+    block: u16,
     heap: Global,
 ) -> Result<Routing<'a>, AllocError>
-    ensures { IfOk result (λ x. Settled relations.now links.now home x) }
+    ensures { IfOk result (λ x. Settled world.entry links.now block x) }
 {
     let networks = Networks {
-        relations,
+        world,
         links,
-        home,
+        block,
     };
     let shown = networks.look_until_same(heap)?;
     let reaching = networks.reaching();

@@ -3,7 +3,8 @@ use Rattle.std.specs.Prelude.{ℕ, List, ◌++◌, Some, None, codes, decimal, O
 
 -- the number, the place and the cause
 abbrev pub fault_words : ℕ → List ℕ → List ℕ → List ℕ
-fault_words number place cause = codes "fault " ++ (decimal number ++ (codes " at " ++ (place ++ (codes ": " ++ cause))))
+fault_words number place cause =
+    codes "fault " ++ (decimal number ++ (codes " at " ++ (place ++ (codes ": " ++ cause))))
 
 -- the words of a fault, where those of its place and its cause are known
 abbrev pub fault_output : ℕ → Option (List ℕ) → Option (List ℕ) → Option (List ℕ)

@@ -4,6 +4,7 @@ ghost use Rattle.text.specs.Dotted.{dotted};
 
 use std::fmt;
 
+/// An address of 32 bits, shown as `10.0.0.1`.
 #[derive(Clone, Copy, Debug, PartialEq, Eq)]
 pub struct Address(pub u32);
 

@@ -1,4 +1,4 @@
-// Text that the programs print: numbers in a row, and faults.
+//! Text that the programs print: numbers in a row, and faults.
 #![tactic(auto)]
 
 mod address;

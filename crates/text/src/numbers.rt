@@ -4,7 +4,7 @@ ghost use Rattle.text.specs.Row.{spelled};
 
 use std::fmt;
 
-// Shows the numbers with commas between them.
+/// Shows the numbers with commas between them.
 #[derive(Clone, Copy, Debug)]
 pub struct Row<'a>(pub &'a [u8]);
 

@@ -1,19 +1,19 @@
 -- What is read is accepted where no thing has a fault and there is no cycle. Assumes nothing.
 use Rattle.std.proofs.Common.{◌≡◌, ℕ, ◌<◌, List, get_or, sym, ap, ◌∙◌, subst, Ok, Err, Result, vec_items}
 use Rattle.std.specs.Result.{IsErrAnd}
-use Rattle.relations.specs.Cycle.{First}
+use Rattle.model.specs.Cycles.{First}
 use Rattle.relations.specs.Sound.{networks as networks_of, relation as relation_of}
 use Rattle.relations.specs.Table.{count, rel}
 use Rattle.relations.specs.declared.matrix.Matrix.{Matrix}
 use Rattle.relations.specs.declared.sound.Relations.{Relations}
 use Rattle.ties.specs.File.{networks, ties, after}
 use Rattle.ties.specs.Faults.{Faultless}
-use Rattle.listing.specs.Encoding.{encoding}
+use Rattle.ties.specs.Encoding.{encoding}
 use Rattle.cycles.specs.Checked.{Told}
 use Rattle.cycles.specs.declared.check.Unsound.{Unsound}
 use Rattle.cycles.specs.declared.check.Unsound.TheVariants.{Cycle, Memory}
-use Rattle.refusals.specs.Unsound.{refusal_of}
-use Rattle.refusals.specs.declared.refusal.Refusal.{Refusal}
+use Rattle.ties.specs.Unsound.{refusal_of}
+use Rattle.ties.specs.declared.refusal.Refusal.{Refusal}
 use Rattle.ties.specs.Outcome.{Accepted, Read, Refused}
 use Rattle.ties.proofs.Decoded.{read_encodes}
 

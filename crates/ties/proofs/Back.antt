@@ -1,17 +1,17 @@
 -- Reading and writing a ties file undo each other. Assumes nothing.
 use Rattle.std.proofs.Common.{◌≡◌, ℕ, ◌<◌, ◌≤◌, List, Ok, Err, vec_items, sym, refl, ◌∙◌, subst}
 use Rattle.std.proofs.lemmas.Option.{none-some}
-use Rattle.relations.specs.Cycle.{Cycle as CycleOf, First}
+use Rattle.model.specs.Cycles.{Cycle as CycleOf, First}
 use Rattle.relations.specs.Sound.{networks as networks_of, relation as relation_of}
 use Rattle.relations.specs.declared.sound.Relations.{Relations}
 use Rattle.relations.proofs.Tables.{within}
-use Rattle.refusals.specs.declared.refusal.Cause.{Cause}
-use Rattle.refusals.specs.declared.refusal.Place.{Place}
-use Rattle.refusals.specs.declared.refusal.Place.TheVariants.{Head, Tie, End}
-use Rattle.refusals.specs.declared.refusal.Refusal.TheVariants.{Fault, Cycle, Memory}
+use Rattle.ties.specs.declared.refusal.Cause.{Cause}
+use Rattle.ties.specs.declared.refusal.Place.{Place}
+use Rattle.ties.specs.declared.refusal.Place.TheVariants.{Head, Tie, End}
+use Rattle.ties.specs.declared.refusal.Refusal.TheVariants.{Fault, Cycle, Memory}
 use Rattle.ties.specs.File.{ties, after}
 use Rattle.ties.specs.Faults.{Faultless, FirstFault}
-use Rattle.listing.specs.Encoding.{encoding}
+use Rattle.ties.specs.Encoding.{encoding}
 use Rattle.ties.specs.Laws.{EncodedReads, ReadsBack}
 use Rattle.ties.proofs.Encoded.{encoded_says, encoded_faultless}
 

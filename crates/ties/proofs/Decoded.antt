@@ -4,16 +4,19 @@ use Rattle.std.specs.List.{flat_map}
 use Rattle.std.proofs.lemmas.List.{take_more, take_all, get_or-drop, flat_map_more, length_push}
 use Rattle.std.proofs.lemmas.Bool.{cases_eq, eqb-true, leb-false, ltb-false, not-false, or_cases, cond-true, cond-false, lt-ltb, le-ltb}
 use Rattle.std.proofs.lemmas.Bool.Decides.{nat_tests}
-use Rattle.relations.specs.Between.{Between, opposite, related, with_pair}
-use Rattle.relations.specs.declared.relation.Relation.{Relation}
-use Rattle.relations.specs.declared.relation.Relation.TheVariants.{Unrelated, Customer, Peer, Provider}
-use Rattle.refusals.specs.declared.refusal.Cause.TheVariants.{UnknownKind, Cut, Surplus, NoSuchNetwork, NotRising, SamePair, PeersTurned, Itself}
-use Rattle.ties.specs.File.{networks, ties, first, second, kind, meant, after}
-use Rattle.ties.specs.Faults.{told, rises, tie_has, head_has, end_has, same_pair, paired, comes_after, CleanTies, Faultless}
-use Rattle.relations.specs.Lists.{gather}
-use Rattle.listing.specs.Encoding.{Listed, listed, listing, bytes_of, encoding}
-use Rattle.ties.proofs.Progress.{none_has, related_paired}
-use Rattle.relations.proofs.Gathered.{gather_same, gather_add, gather_blank}
+use Rattle.model.specs.Relations.{Between, opposite, related}
+use Rattle.relations.specs.Between.{with_pair}
+use Rattle.model.specs.declared.relation.Relation.{Relation}
+use Rattle.model.specs.declared.relation.Relation.TheVariants.{Unrelated, Customer, Peer, Provider}
+use Rattle.model.specs.Checks.{first_fault}
+use Rattle.model.proofs.Checks.{none_holds}
+use Rattle.ties.specs.File.{networks, ties, first, second, kind, after}
+use Rattle.ties.specs.Kind.{meant}
+use Rattle.ties.specs.Faults.{rises, tie_checks, head_checks, end_checks, same_pair, paired, comes_after, CleanTies, Faultless}
+use Rattle.model.specs.Lists.{gather}
+use Rattle.ties.specs.Encoding.{Listed, listed, listing, bytes_of, encoding}
+use Rattle.ties.proofs.Progress.{related_paired}
+use Rattle.model.proofs.Gathered.{gather_same, gather_add, gather_blank}
 
 abbrev tie_in : List ℕ → ℕ → Listed
 tie_in bs k = record { one = first bs k; other = second bs k; kind = kind bs k }
@@ -97,16 +100,16 @@ unfolding paired
 paired_turned bs a b zero = refl
 paired_turned bs a b (suc k) = let e = paired_turned bs a b k in let f : same_pair (first bs k) (second bs k) a b ≡ same_pair (first bs k) (second bs k) b a = grind (arith, nat_tests) in λ i. f i || e i
 
-sound : (bs : List ℕ) (k : ℕ) → told (tie_has bs k) ≡ None → Sound bs k
+sound : (bs : List ℕ) (k : ℕ) → first_fault (tie_checks bs k) ≡ None → Sound bs k
 sound bs k e =
-    let no = none_has (tie_has bs k) e in
-    let unknown = no UnknownKind in
-    let cut = no Cut in
-    let beyond = no NoSuchNetwork in
-    let order = no NotRising in
-    let twice = no SamePair in
-    let turned = no PeersTurned in
-    let itself = no Itself in
+    let no = none_holds (tie_checks bs k) e in
+    let unknown = no.0 in
+    let cut = no.1.0 in
+    let beyond = no.1.1.0 in
+    let order = no.1.1.1.0 in
+    let twice = no.1.1.1.1.0 in
+    let turned = no.1.1.1.1.1.0 in
+    let itself = no.1.1.1.1.1.1.0 in
     let long : 4 + 3 * k + 2 < length bs = leb-false (length bs) (4 + 3 * k + 2) cut in
     let there : ltb (4 + 3 * k + 2) (length bs) ≡ true = lt-ltb (4 + 3 * k + 2) (length bs) long in
     record {
@@ -196,10 +199,10 @@ long_enough : (bs : List ℕ) (k : ℕ) → 4 ≤ length bs → CleanTies bs k �
 long_enough bs zero h clean = h
 long_enough bs (suc k) h clean = omega (arith, (sound bs k (clean k (omega arith))).whole)
 
-head_is : (most : ℕ) (bs : List ℕ) → told (head_has most bs) ≡ None → (4 ≤ length bs) × (get_or bs 0 0 ≡ 16)
+head_is : (most : ℕ) (bs : List ℕ) → first_fault (head_checks most bs) ≡ None → (4 ≤ length bs) × (get_or bs 0 0 ≡ 16)
 head_is most bs e =
-    let unknown = none_has (head_has most bs) e UnknownKind in
-    let four : 4 ≤ length bs = ltb-false (length bs) 4 (none_has (head_has most bs) e Cut) in
+    let unknown = (none_holds (head_checks most bs) e).0 in
+    let four : 4 ≤ length bs = ltb-false (length bs) 4 (none_holds (head_checks most bs) e).1.0 in
     (four, kind_is bs four unknown)
   where
     kind_is : (bs : List ℕ) → 4 ≤ length bs → (ltb 0 (length bs) && not (eqb (get_or bs 0 0) 16)) ≡ false → get_or bs 0 0 ≡ 16
@@ -215,7 +218,7 @@ pub read_encodes : (most : ℕ) (bs : List ℕ) → get_or bs 3 0 < 256 → Faul
 read_encodes most bs small f =
     let k = ties bs in
     let head = head_is most bs f.head in
-    let most_long : length bs ≤ 4 + 3 * k = ltb-false (4 + 3 * k) (length bs) (none_has (end_has bs) f.end Surplus) in
+    let most_long : length bs ≤ 4 + 3 * k = ltb-false (4 + 3 * k) (length bs) (none_holds (end_checks bs) f.end).0 in
     let long = long_enough bs k head.0 f.each in
     let list = listing_is bs k f.each in
     let count : length (listing (networks bs) (after bs k)) ≡ k = ap length list ∙ length_ties bs k in

@@ -1,22 +1,24 @@
 -- The encoding of relations in which both ends say the same reads back without a fault, as the same relations. Assumes nothing.
 use Rattle.std.proofs.Common.{◌≡◌, ℕ, zero, suc, ◌+◌, ◌*◌, ◌<◌, ◌≤◌, Bool, true, false, cond, not, ◌&&◌, ◌||◌, eqb, ltb, List, [], ◌∷◌, ◌++◌, length, get_or, drop, None, sym, refl, ap, ◌∙◌, subst, inl, inr, ⊎_elim, arith}
-use mathlib.Core.Path.{fun_ext}
 use Rattle.std.specs.List.{flat_map, AllByRecursion}
 use Rattle.std.proofs.lemmas.List.{get_or-drop, drop_more}
 use Rattle.std.proofs.lemmas.Bool.{cases_lt, cases_order, cond_both, ltb-true, lt-leb, le-ltb, or_right, or_left, or_from, cond-true, lt-ltb, ne_eqb, and_right}
 use Rattle.std.proofs.lemmas.Bool.Decides.{nat_tests}
-use Rattle.relations.specs.Between.{Between, Mutual, Apart, Within, opposite, with_pair}
-use Rattle.relations.specs.declared.relation.Relation.{Relation}
-use Rattle.relations.specs.declared.relation.Relation.TheVariants.{Unrelated, Customer, Peer, Provider}
-use Rattle.refusals.specs.declared.refusal.Cause.{Cause}
-use Rattle.refusals.specs.declared.refusal.Cause.TheVariants.{UnknownKind, Cut, Surplus, NoSuchNetwork, BadCount, NotRising, SamePair, PeersTurned, Itself, TooMany}
-use Rattle.ties.specs.File.{ties, first, second, kind, meant, after}
-use Rattle.ties.specs.Faults.{told, rises, tie_has, head_has, end_has, same_pair, paired, comes_after, Faultless}
-use Rattle.relations.specs.Lists.{gather}
-use Rattle.listing.specs.Encoding.{Listed, listed, listing, bytes_of, encoding}
+use Rattle.model.specs.Relations.{Between, Mutual, Apart, Within, opposite}
+use Rattle.relations.specs.Between.{with_pair}
+use Rattle.model.specs.declared.relation.Relation.{Relation}
+use Rattle.model.specs.declared.relation.Relation.TheVariants.{Unrelated, Customer, Peer, Provider}
+use Rattle.model.specs.Checks.{first_fault}
+use Rattle.model.proofs.Checks.{none_told}
+use Rattle.model.specs.declared.limits.TheConstants.{MOST_NETWORKS as MOST}
+use Rattle.ties.specs.File.{ties, first, second, kind, after}
+use Rattle.ties.specs.Kind.{is_kind, meant}
+use Rattle.ties.specs.Faults.{rises, tie_checks, head_checks, end_checks, same_pair, paired, comes_after, Faultless}
+use Rattle.model.specs.Lists.{gather}
+use Rattle.ties.specs.Encoding.{Listed, listed, listing, bytes_of, encoding}
 use Rattle.std.proofs.ByRecursion.{All-append, All-get_or, All-weaker}
-use Rattle.relations.proofs.Gathered.{gather_all, gather_at}
-use Rattle.listing.proofs.Written.{length_bytes}
+use Rattle.model.proofs.Gathered.{gather_all, gather_at}
+use Rattle.ties.proofs.Written.{length_bytes}
 use Rattle.ties.proofs.Decoded.{Known}
 
 -- the tie that stands for none
@@ -79,9 +81,6 @@ drop_bytes (t ∷ ts) (suc k) = let e : 3 * suc k ≡ suc (suc (suc (3 * k))) = 
 
 byte_at : (ts : List Listed) (k c : ℕ) → k < length ts → get_or (flat_map bytes_of ts) (3 * k + c) 0 ≡ get_or (bytes_of (get_or ts k blank) ++ flat_map bytes_of (drop (k + 1) ts)) c 0
 byte_at ts k c h = sym (get_or-drop (3 * k) (flat_map bytes_of ts) c 0) ∙ ap (λ l. get_or l c 0) (drop_bytes ts k ∙ ap (flat_map bytes_of) (drop_more ts k blank h))
-
-none_told : (has : Cause → Bool) → ((c : Cause) → has c ≡ false) → told has ≡ None
-none_told has h = ap told (fun_ext h)
 
 -- a tie that stands for what the relations say
 record Good (n : ℕ) (rel : Between) (t : Listed) : Type 0 where
@@ -176,23 +175,37 @@ module _ (n : ℕ) (rel : Between) («mutual» : Mutual rel) (apart : Apart rel)
   in_order zero h = refl
   in_order (suc k) h = rising_file k (suc k) (omega arith) h
 
-  faultless_tie : (k : ℕ) → k < length all_ties → (c : Cause) → tie_has file k c ≡ false
-  faultless_tie k h UnknownKind = known_kind (good_file k h).known
+  faultless_tie : (k : ℕ) → k < length all_ties → first_fault (tie_checks file k) ≡ None
+  faultless_tie k h =
+      let g = good_file k h in
+      none_told (tie_checks file k) (
+        known_kind g.known,
+        (
+          lt-leb (length file) (4 + 3 * k + 2) (omega (arith, length_is)),
+          (
+            or_from _ _ (lt-leb n (first file k) g.one) (lt-leb n (second file k) g.other),
+            (
+              ap not (in_order k h),
+              (
+                not_paired k k (omega arith) h,
+                (
+                  peers (first file k) (second file k) (kind file k) g.known,
+                  (
+                    ne_eqb (first file k) (second file k) (not_itself _ g),
+                    tt,
+                  ),
+                ),
+              ),
+            ),
+          ),
+        ),
+      )
     where
-      known_kind : Known (first file k) (second file k) (kind file k) → (ltb (4 + 3 * k + 2) (length file) && not (eqb (kind file k) 1 || eqb (kind file k) 2)) ≡ false
+      known_kind : Known (first file k) (second file k) (kind file k) → (ltb (4 + 3 * k + 2) (length file) && not (is_kind (kind file k))) ≡ false
       known_kind x = ⊎_elim (λ e. grind (arith, nat_tests)) (λ e. grind (arith, nat_tests)) x
-  faultless_tie k h Cut = lt-leb (length file) (4 + 3 * k + 2) (omega (arith, length_is))
-  faultless_tie k h Surplus = refl
-  faultless_tie k h NoSuchNetwork = let g = good_file k h in or_from _ _ (lt-leb n (first file k) g.one) (lt-leb n (second file k) g.other)
-  faultless_tie k h BadCount = refl
-  faultless_tie k h NotRising = ap not (in_order k h)
-  faultless_tie k h SamePair = not_paired k k (omega arith) h
-  faultless_tie k h PeersTurned = peers (first file k) (second file k) (kind file k) (good_file k h).known
-    where
+
       peers : (a b k : ℕ) → Known a b k → (eqb k 2 && ltb b a) ≡ false
       peers a b k x = ⊎_elim (λ e. grind (arith, nat_tests)) (λ e. grind (arith, nat_tests)) x
-  faultless_tie k h Itself = ne_eqb (first file k) (second file k) (not_itself _ (good_file k h))
-  faultless_tie k h TooMany = refl
 
   -- what the first k ties say is what the relations say, of the pairs that they name
   after_is : (k : ℕ) → k ≤ length all_ties → (i j : ℕ) → after file k i j ≡ cond (paired file i j k) (rel i j) Unrelated
@@ -263,33 +276,24 @@ module _ (n : ℕ) (rel : Between) («mutual» : Mutual rel) (apart : Apart rel)
   pub encoded_says : (i j : ℕ) → after file (ties file) i j ≡ rel i j
   encoded_says i j = ap (λ k. after file k i j) count_is ∙ says_again i j (rel i j) refl
 
-  pub encoded_faultless : (most : ℕ) → 0 < n → n ≤ 64 → n ≤ most → Faultless most file
+  pub encoded_faultless : (most : ℕ) → 0 < n → n ≤ MOST → n ≤ most → Faultless most file
   encoded_faultless most some few allowed = record {
-    head = none_told (head_has most file) head_clean;
-    each = λ m h. none_told (tie_has file m) (faultless_tie m (omega (arith, count_is)));
-    end = none_told (end_has file) end_clean;
+    head = none_told (head_checks most file) (
+      and_right (ltb 0 (length file)) false refl,
+      (
+        le-ltb (length file) 4 (omega (arith, length_is)),
+        (
+          count_fits,
+          (
+            le-ltb most n allowed,
+            tt,
+          ),
+        ),
+      ),
+    );
+    each = λ m h. faultless_tie m (omega (arith, count_is));
+    end = none_told (end_checks file) (le-ltb (4 + 3 * ties file) (length file) (omega (arith, length_is, count_is)), tt);
   }
     where
-      head_clean : (c : Cause) → head_has most file c ≡ false
-      head_clean UnknownKind = and_right (ltb 0 (length file)) false refl
-      head_clean Cut = le-ltb (length file) 4 (omega (arith, length_is))
-      head_clean Surplus = refl
-      head_clean NoSuchNetwork = refl
-      head_clean BadCount = grind (arith, nat_tests)
-      head_clean NotRising = refl
-      head_clean SamePair = refl
-      head_clean PeersTurned = refl
-      head_clean Itself = refl
-      head_clean TooMany = le-ltb most n allowed
-
-      end_clean : (c : Cause) → end_has file c ≡ false
-      end_clean UnknownKind = refl
-      end_clean Cut = refl
-      end_clean Surplus = le-ltb (4 + 3 * ties file) (length file) (omega (arith, length_is, count_is))
-      end_clean NoSuchNetwork = refl
-      end_clean BadCount = refl
-      end_clean NotRising = refl
-      end_clean SamePair = refl
-      end_clean PeersTurned = refl
-      end_clean Itself = refl
-      end_clean TooMany = refl
+      count_fits : (eqb n 0 || ltb MOST n) ≡ false
+      count_fits = grind (arith, nat_tests)

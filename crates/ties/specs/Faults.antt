@@ -1,19 +1,16 @@
--- Which faults a thing of a ties file has, and which of them is told. Assumes nothing.
-use Rattle.std.specs.Prelude.{◌≡◌, ℕ, zero, suc, ◌+◌, ◌*◌, ◌<◌, Bool, true, false, not, ◌&&◌, ◌||◌, List, [], ◌∷◌, length, Some, None, Option, ◌==◌, nat_le, nat_lt, slice_index}
-use Rattle.std.specs.List.{find}
-use Rattle.refusals.specs.declared.refusal.Cause.{Cause}
-use Rattle.refusals.specs.declared.refusal.Cause.TheVariants.{UnknownKind, Cut, Surplus, NoSuchNetwork, BadCount, NotRising, SamePair, PeersTurned, Itself, TooMany}
-use Rattle.refusals.specs.declared.refusal.Place.{Place}
-use Rattle.refusals.specs.declared.refusal.Place.TheVariants.{Head, Tie, End}
+-- What may be wrong with each thing of a ties file, in the order in which it is told, and which fault is the first.
+-- Assumes nothing.
+use Rattle.std.specs.Prelude.{◌≡◌, ℕ, zero, suc, ◌+◌, ◌*◌, ◌<◌, Bool, true, false, not, ◌&&◌, ◌||◌, List, [], ◌∷◌, length, Some, None, ◌==◌, nat_le, nat_lt, slice_index}
+use Rattle.model.specs.Checks.{Checks, first_fault}
+use Rattle.model.specs.declared.limits.TheConstants.{MOST_NETWORKS as MOST}
+use Rattle.ties.specs.declared.encoder.TheConstants.{TIES}
+use Rattle.ties.specs.declared.kind.Kind.TheVariants.{Peers}
+use Rattle.ties.specs.declared.refusal.Cause.{Cause}
+use Rattle.ties.specs.declared.refusal.Cause.TheVariants.{UnknownKind, Cut, Surplus, NoSuchNetwork, BadCount, NotRising, SamePair, PeersTurned, Itself, TooMany}
+use Rattle.ties.specs.declared.refusal.Place.{Place}
+use Rattle.ties.specs.declared.refusal.Place.TheVariants.{Head, Tie, End}
 use Rattle.ties.specs.File.{networks, ties, first, second}
-
--- all causes, in the order in which they are told: by number, and those of one number as listed
-abbrev pub causes : List Cause
-causes = UnknownKind ∷ Cut ∷ Surplus ∷ NoSuchNetwork ∷ BadCount ∷ NotRising ∷ SamePair ∷ PeersTurned ∷ Itself ∷ TooMany ∷ []
-
--- the first of the causes that a thing has
-abbrev pub told : (Cause → Bool) → Option Cause
-told has = find has causes
+use Rattle.ties.specs.Kind.{byte, is_kind}
 
 -- the second pair comes after the first
 abbrev pub rises : ℕ → ℕ → ℕ → ℕ → Bool
@@ -33,65 +30,61 @@ abbrev pub comes_after : List ℕ → ℕ → ℕ → ℕ → Bool
 comes_after bs zero a b = true
 comes_after bs (suc k) a b = rises (first bs k) (second bs k) a b
 
--- what is wrong with the head, where the caller allows `most` networks
-abbrev pub head_has : ℕ → List ℕ → Cause → Bool
-head_has most bs UnknownKind = nat_lt 0 (length bs) && not (slice_index bs 0 == 16)
-head_has most bs Cut = nat_lt (length bs) 4
-head_has most bs Surplus = false
-head_has most bs NoSuchNetwork = false
-head_has most bs BadCount = networks bs == 0 || nat_lt 64 (networks bs)
-head_has most bs NotRising = false
-head_has most bs SamePair = false
-head_has most bs PeersTurned = false
-head_has most bs Itself = false
-head_has most bs TooMany = nat_lt most (networks bs)
+-- of the head, where the caller allows `most` networks
+abbrev pub head_checks : ℕ → List ℕ → Checks Cause
+head_checks most bs =
+    (UnknownKind, nat_lt 0 (length bs) && not (slice_index bs 0 == TIES)) ∷
+    (Cut, nat_lt (length bs) 4) ∷
+    (BadCount, networks bs == 0 || nat_lt MOST (networks bs)) ∷
+    (TooMany, nat_lt most (networks bs)) ∷
+    []
 
--- what is wrong with a tie at place p of the bytes: is it in order, and is an earlier one of its pair
-abbrev pub tie_at_has : ℕ → List ℕ → ℕ → Bool → Bool → Cause → Bool
-tie_at_has n bs p ordered twice UnknownKind = nat_lt (p + 2) (length bs) && not (slice_index bs (p + 2) == 1 || slice_index bs (p + 2) == 2)
-tie_at_has n bs p ordered twice Cut = nat_le (length bs) (p + 2)
-tie_at_has n bs p ordered twice Surplus = false
-tie_at_has n bs p ordered twice NoSuchNetwork = nat_le n (slice_index bs p) || nat_le n (slice_index bs (p + 1))
-tie_at_has n bs p ordered twice BadCount = false
-tie_at_has n bs p ordered twice NotRising = not ordered
-tie_at_has n bs p ordered twice SamePair = twice
-tie_at_has n bs p ordered twice PeersTurned = slice_index bs (p + 2) == 2 && nat_lt (slice_index bs (p + 1)) (slice_index bs p)
-tie_at_has n bs p ordered twice Itself = slice_index bs p == slice_index bs (p + 1)
-tie_at_has n bs p ordered twice TooMany = false
+-- of a tie at place p of the bytes, among n networks: is it in order, and is an earlier one of its pair
+abbrev pub tie_checks_at : ℕ → List ℕ → ℕ → Bool → Bool → Checks Cause
+tie_checks_at n bs p ordered twice =
+    (UnknownKind, nat_lt (p + 2) (length bs) && not (is_kind (slice_index bs (p + 2)))) ∷
+    (Cut, nat_le (length bs) (p + 2)) ∷
+    (NoSuchNetwork, nat_le n (slice_index bs p) || nat_le n (slice_index bs (p + 1))) ∷
+    (NotRising, not ordered) ∷
+    (SamePair, twice) ∷
+    (PeersTurned, slice_index bs (p + 2) == byte Peers && nat_lt (slice_index bs (p + 1)) (slice_index bs p)) ∷
+    (Itself, slice_index bs p == slice_index bs (p + 1)) ∷
+    []
 
--- what is wrong with tie k
-abbrev pub tie_has : List ℕ → ℕ → Cause → Bool
-tie_has bs k = tie_at_has (networks bs) bs (4 + 3 * k) (comes_after bs k (first bs k) (second bs k)) (paired bs (first bs k) (second bs k) k)
+-- of tie k
+abbrev pub tie_checks : List ℕ → ℕ → Checks Cause
+tie_checks bs k =
+    let in_order : Bool = comes_after bs k (first bs k) (second bs k) in
+    let twice : Bool = paired bs (first bs k) (second bs k) k in
+    tie_checks_at (networks bs) bs (4 + 3 * k) in_order twice
 
--- what is wrong after the last tie
-abbrev pub end_has : List ℕ → Cause → Bool
-end_has bs UnknownKind = false
-end_has bs Cut = false
-end_has bs Surplus = nat_lt (4 + 3 * ties bs) (length bs)
-end_has bs NoSuchNetwork = false
-end_has bs BadCount = false
-end_has bs NotRising = false
-end_has bs SamePair = false
-end_has bs PeersTurned = false
-end_has bs Itself = false
-end_has bs TooMany = false
+-- of what follows the last tie
+abbrev pub end_checks : List ℕ → Checks Cause
+end_checks bs = (Surplus, nat_lt (4 + 3 * ties bs) (length bs)) ∷ []
+
+-- of the thing at a place
+abbrev pub checks_at : ℕ → List ℕ → Place → Checks Cause
+checks_at most bs Head = head_checks most bs
+checks_at most bs (Tie k) = tie_checks bs k
+checks_at most bs End = end_checks bs
 
 -- the first k ties have no fault
 abbrev pub CleanTies : List ℕ → ℕ → Type 0
-CleanTies bs k = (m : ℕ) → m < k → told (tie_has bs m) ≡ None
+CleanTies bs k = (m : ℕ) → m < k → first_fault (tie_checks bs m) ≡ None
 
 -- no thing of the file has a fault
 pub record Faultless (most : ℕ) (bs : List ℕ) : Type 0 where
-  pub head : told (head_has most bs) ≡ None
+  pub head : first_fault (head_checks most bs) ≡ None
   pub each : CleanTies bs (ties bs)
-  pub end : told (end_has bs) ≡ None
+  pub end : first_fault (end_checks bs) ≡ None
 
 -- tie k is the first with a fault
 abbrev pub TieFault : List ℕ → ℕ → Cause → Type 0
-TieFault bs k c = CleanTies bs k × (k < ties bs) × (told (tie_has bs k) ≡ Some c)
+TieFault bs k c = CleanTies bs k × (k < ties bs) × (first_fault (tie_checks bs k) ≡ Some c)
 
 -- the first thing with a fault, and what is told of it
 abbrev pub FirstFault : ℕ → List ℕ → Place → Cause → Type 0
-FirstFault most bs Head c = told (head_has most bs) ≡ Some c
-FirstFault most bs (Tie k) c = (told (head_has most bs) ≡ None) × TieFault bs k c
-FirstFault most bs End c = (told (head_has most bs) ≡ None) × CleanTies bs (ties bs) × (told (end_has bs) ≡ Some c)
+FirstFault most bs Head c = first_fault (head_checks most bs) ≡ Some c
+FirstFault most bs (Tie k) c = (first_fault (head_checks most bs) ≡ None) × TieFault bs k c
+FirstFault most bs End c =
+    (first_fault (head_checks most bs) ≡ None) × CleanTies bs (ties bs) × (first_fault (end_checks bs) ≡ Some c)

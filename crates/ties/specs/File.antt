@@ -1,17 +1,18 @@
 -- The things that stand in a ties file: its head and its ties, by their places in the bytes. Assumes nothing.
 use Rattle.std.specs.Prelude.{ℕ, zero, suc, ◌+◌, ◌*◌, List, slice_index}
-use Rattle.wire.specs.Reading.{word16}
-use Rattle.relations.specs.Between.{Between, unrelated, with_pair}
-pub use Rattle.listing.specs.Kind.{meant}
+use Rattle.wire.specs.Numbers.{word16}
+use Rattle.model.specs.Relations.{Between}
+use Rattle.relations.specs.Between.{unrelated, with_pair}
+use Rattle.ties.specs.Kind.{meant}
 
--- the head: 16, how many networks, how many ties
+-- the head: `TIES`, how many networks, how many ties
 abbrev pub networks : List ℕ → ℕ
 networks bs = slice_index bs 1
 
 abbrev pub ties : List ℕ → ℕ
 ties bs = word16 bs 2
 
--- tie k: two networks and a kind; 1: the first is the second's customer, 2: peers
+-- tie k: two networks and the byte of a kind
 abbrev pub first : List ℕ → ℕ → ℕ
 first bs k = slice_index bs (4 + 3 * k)
 

@@ -1,3 +1,9 @@
+pub mod Kind
+pub mod Encoding
+pub mod Summary
+pub mod Number
+pub mod Words
+pub mod Unsound
 pub mod File
 pub mod Faults
 pub mod Steps

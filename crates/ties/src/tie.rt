@@ -1,25 +1,24 @@
 // One thing of a ties file: its head, or a tie.
-ghost use Rattle.std.specs.Prelude.{◌≡◌, ◌+◌, Some, None, MatchResult, slice_index};
+ghost use Rattle.std.specs.Prelude.{◌≡◌, Some, None, MatchResult};
+ghost use Rattle.model.specs.Checks.{first_fault};
 ghost use Rattle.wire.specs.Reading.{input, place};
-ghost use Rattle.relations.specs.Between.{related};
-ghost use Rattle.relations.specs.Table.{count, rel};
-ghost use Rattle.ties.specs.File.{networks as networks_in, ties as ties_in, meant};
-ghost use Rattle.ties.specs.Faults.{told, head_has, rises};
-ghost use Rattle.ties.specs.Steps.{ordered, tie_told, pair_has};
+ghost use Rattle.ties.specs.Faults.{head_checks, rises};
+ghost use Rattle.ties.specs.Steps.{HeadRead, TieRead, next_checks, pair_checks};
 
-use listing::{Kind, TIES};
-use refusals::Cause;
+use crate::encoder::TIES;
+use crate::kind::Kind;
+use crate::refusal::Cause;
 use relations::{MOST, Matrix, Relation};
 use wire::Reader;
 
-// How many networks there are, and how many ties follow.
+/// How many networks there are, and how many ties follow.
 #[derive(Clone, Copy)]
 pub struct Head {
     pub networks: u8,
     pub ties: u16,
 }
 
-// Two networks, and what the second is to the first.
+/// Two networks, and what the second is to the first.
 #[derive(Clone, Copy)]
 pub struct Tie {
     pub first: u8,
@@ -33,7 +32,8 @@ impl Head {
     pub(crate) fn read(reader: &mut Reader, most: u8) -> Result<Head, Cause>
         requires { place reader.old ≡ 0 }
         ensures source { input reader.new ≡ input reader.old }
-        ensures cases { MatchResult result (λ h. (told (head_has most (input reader.old)) ≡ None) × (h.networks ≡ networks_in (input reader.old)) × (h.ties ≡ ties_in (input reader.old)) × (place reader.new ≡ 4)) (λ c. told (head_has most (input reader.old)) ≡ Some c) }
+        ensures cases { MatchResult result (HeadRead most reader.old reader.new)
+            (λ c. first_fault (head_checks most (input reader.old)) ≡ Some c) }
     {
         let Some(kind) = reader.byte() else {
             return Err(Cause::Cut);
@@ -65,7 +65,10 @@ impl Tie {
         last: Option<Tie>,
     ) -> Result<Tie, Cause>
         ensures source { input reader.new ≡ input reader.old }
-        ensures cases { MatchResult result (λ t. (tie_told (input reader.old) (place reader.old) matrix.now last ≡ None) × (t.first ≡ slice_index (input reader.old) (place reader.old)) × (t.second ≡ slice_index (input reader.old) (place reader.old + 1)) × (t.relation ≡ meant (slice_index (input reader.old) (place reader.old + 2))) × (place reader.new ≡ place reader.old + 3)) (λ c. tie_told (input reader.old) (place reader.old) matrix.now last ≡ Some c) }
+        ensures cases { MatchResult result (TieRead matrix.now last reader.old reader.new)
+            (λ c.
+            first_fault (next_checks (input reader.old) (place reader.old) matrix.now last)
+            ≡ Some c) }
     {
         let Some(first) = reader.byte() else {
             return Err(Cause::Cut);
@@ -88,7 +91,8 @@ impl Tie {
 
     // Whether the tie may stand after those that `matrix` has, of which `last` was the last.
     fn check(self, matrix: &Matrix, last: Option<Tie>) -> Result<(), Cause>
-        ensures { MatchResult result (λ _. told (pair_has (count matrix.now) self (ordered last self.first self.second) (related (rel matrix.now self.first self.second))) ≡ None) (λ c. told (pair_has (count matrix.now) self (ordered last self.first self.second) (related (rel matrix.now self.first self.second))) ≡ Some c) }
+        ensures { let checks = pair_checks matrix.now last self in
+            MatchResult result (λ _. first_fault checks ≡ None) (λ c. first_fault checks ≡ Some c) }
     {
         let networks = matrix.networks();
         if self.first >= networks || self.second >= networks {

@@ -1,7 +1,7 @@
-// What a network goes by, of what its neighbours told.
+//! What a network goes by, of what its neighbours told.
 use crate::making::sound_relations;
 use relations::{Relation, Relations};
-use selection::{Node, PathTable, Route, select};
+use selection::{Node, PathTable, Route, World, select};
 use std::alloc::AllocError;
 use std::test::Fail;
 
@@ -39,12 +39,16 @@ fn neighbour(route: Route) -> Option<u8> {
 fn chosen(rt: HostRuntime, up: bool, paths: &[&[u8]]) -> Result<Option<u8>, Fail> {
     let relations = sixth(rt)?;
     let table = told(rt, paths)?;
-    let node = Node {
+    let world = World {
         relations: &relations,
+        homes: &[5],
+    };
+    let node = Node {
+        world,
         up: &[up, true, true, true],
         me: 4,
     };
-    Ok(neighbour(select(node, &table, 0, 5)))
+    Ok(neighbour(select(node, &table, 0)))
 }
 
 #[test]
@@ -75,11 +79,15 @@ fn the_order_of_choosing(rt: HostRuntime) -> Result<(), Fail> {
 fn the_home(rt: HostRuntime) -> Result<(), Fail> {
     let relations = sixth(rt)?;
     let table = told(rt, &[&[0, 5]])?;
-    let node = Node {
+    let world = World {
         relations: &relations,
+        homes: &[4],
+    };
+    let node = Node {
+        world,
         up: &[true],
         me: 4,
     };
-    assert!(rt; matches!(select(node, &table, 0, 4), Route::Local));
+    assert!(rt; matches!(select(node, &table, 0), Route::Local));
     Ok(())
 }

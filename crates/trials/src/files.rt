@@ -1,4 +1,4 @@
-// Ties files, sound and damaged.
+//! Ties files, sound and damaged.
 use relations::MOST;
 use std::test::Fail;
 use text::Numbered;

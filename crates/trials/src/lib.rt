@@ -1,4 +1,4 @@
-// Examples of what the libraries below the router do, each proved to end and then run.
+//! Examples of what the libraries below the router do, each proved to end and then run.
 #![tactic(auto)]
 
 #[cfg(test)]

@@ -1,4 +1,4 @@
-// Tables that the tests make.
+//! Tables that the tests make.
 use cycles::sound;
 use relations::{Matrix, Relation, Relations};
 use std::alloc::AllocError;

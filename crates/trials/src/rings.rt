@@ -1,4 +1,4 @@
-// Small tables, and the cycle that is told of each.
+//! Small tables, and the cycle that is told of each.
 use crate::making::table;
 use cycles::{Unsound, first_cycle, sound};
 use relations::{Matrix, Relation};

@@ -1,4 +1,4 @@
-// Paths told and taken back.
+//! Paths told and taken back.
 use selection::PathTable;
 use std::test::Fail;
 

@@ -1,8 +1,8 @@
-// A customer's path is told, told again and told otherwise; a peer's path, which is for customers only, takes it back.
+//! A customer's path is told, told again and told otherwise; a peer's path, which is for customers only, takes it back.
 use crate::making::sound_relations;
-use advertisement::{Audience, advertise, tell};
+use advertisement::{advertise, tell};
 use relations::{Relation, Relations};
-use selection::{Node, PathTable, Route};
+use selection::{NetworkSet, Node, PathTable, Route, World};
 use std::test::Fail;
 
 // Network 0 has the customer 1, the provider 2 and the peer 3.
@@ -15,10 +15,13 @@ fn ties(rt: HostRuntime) -> Result<Relations, Fail> {
     sound_relations(rt, 4, &ties)
 }
 
-// Network 0 with its links up.
+// Network 0 with its links up. The block is at home elsewhere.
 fn node(ties: &Relations) -> Node {
     Node {
-        relations: ties,
+        world: World {
+            relations: ties,
+            homes: &[9],
+        },
         up: &[true; 4],
         me: 0,
     }
@@ -41,7 +44,7 @@ fn only_what_is_new(rt: HostRuntime) -> Result<(), Fail> {
 }
 
 // Whether 1, 2 and 3 are told.
-fn all(whom: Audience) -> (bool, bool, bool) {
+fn all(whom: NetworkSet) -> (bool, bool, bool) {
     (whom.contains(1), whom.contains(2), whom.contains(3))
 }
 

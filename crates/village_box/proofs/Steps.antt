@@ -5,7 +5,7 @@ use Rattle.messages.specs.declared.cause.Cause.{Cause}
 use Rattle.messages.proofs.Streams.{read_on}
 use Rattle.speaker.specs.declared.fault.Fault.{Fault}
 use Rattle.speaker.specs.declared.refusal.Refusal.TheVariants.{Fault as Faulty}
-use Rattle.village_box.specs.Due.{due_of, held_by, lookup_of, refusals, stopping, world_of, written}
+use Rattle.village_box.specs.Due.{due_of, held_by, lookup_of, number_in, refusals, stopping, world_of, written}
 use Rattle.village_box.specs.Inboxes.{Gained}
 use Rattle.village_box.specs.Taking.{Follows, Over, Served, Stays, Took, outcome}
 use Rattle.village_box.specs.declared.village.Village.{Village}
@@ -73,7 +73,7 @@ none_stops false = refl
 due_none : (v : Village) (g : Bool) (d : List ℕ) → due_of v g (d ++ []) [] ≡ (d, [], None)
 unfolding written refusals
 due_none v g d =
-    (λ j. ((d ++ []) ++ written (world_of v) (lookup_of v) v.router.number (held_by v) (read_on.none j).messages, stopping g (refusals (world_of v) (lookup_of v) v.router.number (held_by v) (read_on.none j).messages), (read_on.none j).fault)) ∙
+    (λ j. ((d ++ []) ++ written (world_of v) (lookup_of v) (number_in v) (held_by v) (read_on.none j).messages, stopping g (refusals (world_of v) (lookup_of v) (number_in v) (held_by v) (read_on.none j).messages), (read_on.none j).fault)) ∙
     (λ j. ((append-nil (d ++ []) ∙ append-nil d) j, none_stops g j, None))
 
 pub over : (x : Option (List ℕ × List Fault × Option Cause)) (g : Bool) (d s : Option (List ℕ)) (v : Village) (told bs : List ℕ) → Stays x (outcome g d v told bs s) → told ≡ [] → bs ≡ [] → IsAtEnd s → Over x d

@@ -1,18 +1,20 @@
 -- What a village writes on a stream of messages, each answered before the next. Assumes nothing.
-use Rattle.std.specs.Prelude.{◌≡◌, ℕ, Bool, true, false, List, [], ◌∷◌, ◌++◌, vec_items, Option, Ok, Err, Result}
+use Rattle.std.specs.Prelude.{◌≡◌, ℕ, Bool, true, false, List, [], ◌∷◌, ◌++◌, Option, Ok, Err, Result}
 use Rattle.blocks.specs.declared.block_list.BlockList.{BlockList}
 use Rattle.blocks.specs.Ranges.{block_at}
-use Rattle.forwarding.specs.Passing.{homed}
-use Rattle.links.specs.Held.{held, links_up, world}
+use Rattle.blocks.specs.Shown.{count_of, firsts_of, homes_of, lasts_of}
+use Rattle.forwarding.specs.Forwarding.{below}
+use Rattle.links.specs.Held.{blocks_of, held, links_up, number_of}
 use Rattle.links.specs.Made.{Fresh}
-use Rattle.links.specs.Local.{Local}
-use Rattle.links.specs.Promise.{Lookup}
-use Rattle.links.specs.World.{World}
+use Rattle.model.specs.Local.{Local}
+use Rattle.model.specs.Packets.{Lookup}
+use Rattle.model.specs.World.{World}
 use Rattle.messages.specs.Encoding.{stream_of}
 use Rattle.messages.specs.Meaning.{Message}
 use Rattle.messages.specs.Reading.{messages_in}
 use Rattle.messages.specs.declared.cause.Cause.{Cause}
 use Rattle.relations.specs.declared.sound.Relations.{Relations}
+use Rattle.selection.specs.Worlds.{world_by}
 use Rattle.speaker.specs.Rule.{Taken, on_message}
 use Rattle.speaker.specs.declared.fault.Fault.{Fault}
 use Rattle.village_box.specs.declared.village.Village.{Village}
@@ -53,17 +55,20 @@ due w at i s g told bs = (told ++ written w at i s (messages_in bs).messages, st
 
 -- what the rule sees of a village: the networks and the homes, the block of an address, and what it holds
 abbrev pub world_of : Village → World
-world_of v = world v.relations v.tables
+world_of v = world_by v.relations (homes_of v.blocks) (blocks_of v.tables)
 
 abbrev pub lookup_of : Village → Lookup
-lookup_of v address = homed (world_of v) (block_at (vec_items v.blocks.firsts) (vec_items v.blocks.lasts) address)
+lookup_of v address = below (blocks_of v.tables) (block_at (firsts_of v.blocks) (lasts_of v.blocks) address)
+
+abbrev pub number_in : Village → ℕ
+number_in v = number_of v.router
 
 abbrev pub held_by : Village → Local
 held_by v = held v.router v.tables
 
 abbrev pub due_of : Village → Bool → List ℕ → List ℕ → List ℕ × List Fault × Option Cause
-due_of v g told bs = due (world_of v) (lookup_of v) v.router.number (held_by v) g told bs
+due_of v g told bs = due (world_of v) (lookup_of v) (number_in v) (held_by v) g told bs
 
 -- a village as it begins: every line is down, and it has heard and told nothing
 abbrev pub Begins : ℕ → Relations → BlockList → Village → Type 0
-Begins number relations blocks v = (v.router.number ≡ number) × (v.relations ≡ relations) × (v.blocks ≡ blocks) × ((k : ℕ) → links_up v.router k ≡ false) × Fresh (vec_items blocks.homes) v.tables
+Begins number relations blocks v = (number_in v ≡ number) × (v.relations ≡ relations) × (v.blocks ≡ blocks) × ((k : ℕ) → links_up v.router k ≡ false) × Fresh (count_of blocks) v.tables

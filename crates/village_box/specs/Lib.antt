@@ -1,3 +1,5 @@
 pub mod Due
 pub mod Inboxes
 pub mod Taking
+pub mod Refusals
+pub mod Stations

@@ -4,10 +4,10 @@ use Rattle.messages.specs.Reading.{messages_in}
 use Rattle.messages.specs.declared.cause.Cause.{Cause}
 use Rattle.messages.specs.declared.cause.Cause.TheVariants.{Cut}
 use Rattle.speaker.specs.declared.fault.Fault.{Fault}
-use Rattle.speaker.specs.declared.fault.Fault.TheVariants.{Message as Unread}
+use Rattle.speaker.specs.declared.fault.Fault.TheVariants.{NotAMessage}
 use Rattle.speaker.specs.declared.refusal.Refusal.{Refusal}
 use Rattle.speaker.specs.declared.refusal.Refusal.TheVariants.{Fault as Faulty, Memory}
-use Rattle.village_box.specs.Due.{due_of, held_by, lookup_of, refusals, stopping, world_of, written}
+use Rattle.village_box.specs.Due.{due_of, held_by, lookup_of, number_in, refusals, stopping, world_of, written}
 use Rattle.village_box.specs.declared.village.Village.{Village}
 
 -- so many bytes were answered: whatever was told before, and whatever comes behind, as much is told in all, by a box that goes
@@ -24,7 +24,7 @@ Follows g v told was now after is = (before more : List ℕ) → due_of now g (b
 abbrev pub Took : Village → List ℕ → Village → List ℕ → List ℕ → Result ℕ Refusal → Type 0
 Took v told now after bs (Ok n) = Passes true v told now after bs n × Passes false v told now after bs n
 Took v told now after bs (Err (Faulty fault (Some n))) = Passes true v told now after bs n
-Took v told now after bs (Err (Faulty fault None)) = Passes true v told now after bs 0 × Passes false v told now after bs 0 × (fault ≡ Unread Cut → length bs < 69)
+Took v told now after bs (Err (Faulty fault None)) = Passes true v told now after bs 0 × Passes false v told now after bs 0 × (fault ≡ NotAMessage Cut → length bs < 69)
 Took v told now after bs (Err Memory) = ⊤
 
 -- what the output has in the end, where it has c now, where that is known, and what the input still has
@@ -48,4 +48,4 @@ Over (Some end) written = (written ≡ Some end.0) × (end.1 ≡ []) × (end.2 �
 abbrev pub Served : Bool → Village → Option (List ℕ) → Option (List ℕ) → Option (List ℕ) → Type 0
 Served g v None input after = ⊤
 Served g v (Some c) None after = ⊤
-Served g v (Some c) (Some bs) after = (after ≡ Some (c ++ written (world_of v) (lookup_of v) v.router.number (held_by v) (messages_in bs).messages)) × (stopping g (refusals (world_of v) (lookup_of v) v.router.number (held_by v) (messages_in bs).messages) ≡ []) × ((messages_in bs).fault ≡ None)
+Served g v (Some c) (Some bs) after = (after ≡ Some (c ++ written (world_of v) (lookup_of v) (number_in v) (held_by v) (messages_in bs).messages)) × (stopping g (refusals (world_of v) (lookup_of v) (number_in v) (held_by v) (messages_in bs).messages) ≡ []) × ((messages_in bs).fault ≡ None)

@@ -1,7 +1,8 @@
-// Bytes that were read and are not yet taken.
-ghost use Rattle.std.specs.Prelude.{◌≡◌, ◌+◌, ◌<◌, ◌≤◌, [], length, drop, take, IfOk, MatchResult};
-ghost use Rattle.std.specs.Io.KnownBytes.{Consumes, IsAtEnd, Keeps};
-ghost use Rattle.village_box.specs.Inboxes.{Gained, Sound, left};
+//! Bytes that were read and are not yet taken.
+ghost use Rattle.std.specs.Prelude.{◌≡◌, ◌<◌, ◌≤◌, [], length, drop, take, IfOk};
+ghost use Rattle.std.specs.Io.KnownBytes.{IsAtEnd};
+ghost use Rattle.village_box.specs.declared.inbox.TheConstants.{BUFFER};
+ghost use Rattle.village_box.specs.Inboxes.{Gained, ReadBehind, Sound, left};
 
 use std::alloc::{AllocError, Global};
 use std::io;
@@ -10,7 +11,7 @@ use std::io::Read;
 // How many bytes the buffer has. A thing has at most 69.
 const BUFFER: usize = 65536;
 
-// Of the buffer those from `start` to `end`.
+/// Of the buffer those from `start` to `end`.
 #[derive(Drop)]
 pub(crate) struct Inbox {
     bytes: Vec<u8>,
@@ -23,12 +24,14 @@ fn read_behind<R: Read>(input: &mut R, buffer: &mut [u8], end: usize) -> io::Res
     requires { end ≤ length buffer.old }
     ensures len { length buffer.new ≡ length buffer.old }
     ensures front { take end buffer.new ≡ take end buffer.old }
-    ensures bytes { MatchResult result (λ n. (end + n ≤ length buffer.old) × Consumes (R.remaining input.old) (R.remaining input.new) (take n (drop end buffer.new)) × (n ≡ 0 → end < length buffer.old → IsAtEnd (R.remaining input.new))) (λ _. Keeps (R.remaining input.old) (R.remaining input.new)) }
+    ensures bytes { ReadBehind (R.remaining input.old) (R.remaining input.new)
+        end buffer.old buffer.new result }
 {
     input.read(&mut buffer[end..])
 }
 
 impl Inbox {
+    /// A buffer that holds nothing.
     pub(crate) fn new(heap: Global) -> Result<Inbox, AllocError>
         ensures { IfOk result (λ b. Sound b × (left b ≡ [])) }
     {
@@ -39,7 +42,7 @@ impl Inbox {
         })
     }
 
-    // What is left.
+    /// What is left.
     pub(crate) fn left(&self) -> &[u8]
         requires { Sound self.now }
         ensures { result.now ≡ left self.now }
@@ -47,7 +50,7 @@ impl Inbox {
         &self.bytes[self.start..self.end]
     }
 
-    // Takes so many bytes from the front.
+    /// Takes so many bytes from the front.
     #[tactic(auto, using(crate::proofs::Buffers::fewer))]
     pub(crate) fn pass(&mut self, taken: usize)
         requires sound { Sound self.old }
@@ -70,12 +73,14 @@ impl Inbox {
         self.start = 0;
     }
 
-    // Reads more behind what is left: how many bytes came, none at the end of the input.
+    /// Reads more behind what is left: how many bytes came, none at the end of the input.
     pub(crate) fn read<R: Read>(&mut self, input: &mut R) -> io::Result<usize>
         requires { Sound self.old }
         ensures sound { Sound self.new }
-        ensures gained { Gained (left self.old) (R.remaining input.old) (left self.new) (R.remaining input.new) }
-        ensures ended { IfOk result (λ n. n ≡ 0 → length (left self.old) < 65536 → IsAtEnd (R.remaining input.new)) }
+        ensures gained { Gained
+            (left self.old) (R.remaining input.old) (left self.new) (R.remaining input.new) }
+        ensures ended { IfOk result (λ n.
+            n ≡ 0 → length (left self.old) < BUFFER → IsAtEnd (R.remaining input.new)) }
     {
         self.shift();
         let count = read_behind(input, &mut self.bytes, self.end)?;

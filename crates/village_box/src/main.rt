@@ -1,14 +1,15 @@
-// box TIES BLOCKS NUMBER [--go-on]: one village's router as it runs in its box.
+//! box TIES BLOCKS NUMBER [--go-on]: one village's router as it runs in its box.
 #![tactic(auto)]
 
-mod failure;
 mod inbox;
 mod loading;
+mod refused;
 mod running;
 mod village;
 
-use failure::{Failure, unmoved};
-use loading::{set_up, words};
+use console::{print, status, words};
+use loading::set_up;
+use refused::Failure;
 use running::serve;
 use std::io;
 use std::process::ExitCode;
@@ -32,6 +33,19 @@ the network that it came from, which is NUMBER for a packet of its own people.
 Standard output is what it tells and hands on, 1, 2 or 3 as above, each with one
 byte before it: the neighbour that it goes to, or 255 for a packet that arrived.
 Each thing is answered before more is read, to the end of the input.
+
+Words:
+  network  a village's box, with a number from 0
+  tie      between two networks: one is the other's customer and that one its
+           provider, or they are peers; a neighbour is a network that is tied
+  line     joins two tied networks; it is up or down
+  turn     of a line: it comes up or goes down, and forgets all that was on it
+  block    addresses with one home, a network
+  way      to a block, told with its road
+  road     the networks on the way to the home, the next one first
+  paid     a road up to providers, then at most once over to a peer, then down
+           to customers
+  step     a packet handed on by one network to the next
 
 A thing with a fault changes nothing, and the box stops, with status 1. It has a
 number and a place: thing K, counted from 0. With --go-on it tells the fault and
@@ -62,9 +76,7 @@ fn perform(
 fn run(rt: &HostRuntime) -> Result<(), Failure> {
     let words = words(rt)?;
     match words.as_slice() {
-        [word] if word.as_str() == "--help" => rt
-            .print(HELP)
-            .map_err(|e| unmoved(rt.alloc(), "standard output", e)),
+        [word] if word.as_str() == "--help" => print(rt, HELP),
         [ties, blocks, number] => {
             perform(rt, ties.as_str(), blocks.as_str(), number.as_str(), false)
         }
@@ -76,11 +88,5 @@ fn run(rt: &HostRuntime) -> Result<(), Failure> {
 }
 
 fn main(rt: HostRuntime) -> ExitCode {
-    match run(&rt) {
-        Ok(()) => ExitCode::SUCCESS,
-        Err(failure) => {
-            let _ = eprintln!(rt; "box: {failure}");
-            ExitCode::FAILURE
-        }
-    }
+    status(&rt, "box", run(&rt))
 }

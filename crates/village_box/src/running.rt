@@ -1,20 +1,40 @@
-// A box runs: it reads things, and answers each before it reads on.
+//! A box runs: it reads things, and answers each before it reads on.
 ghost use Rattle.std.specs.Prelude.{◌≡◌, ◌<◌, ◌≤◌, [], Some, drop, false, true, length, IfOk, OnOk};
-ghost use Rattle.std.specs.Io.KnownBytes.{Appends, IsAtEnd};
-ghost use Rattle.village_box.specs.Inboxes.{Gained, Sound, left};
-ghost use Rattle.village_box.specs.Taking.{Follows, Over, Served, Stays, outcome};
+ghost use Rattle.std.specs.Io.KnownBytes.{Appends};
+ghost use Rattle.village_box.specs.Inboxes.{Sound, left};
+ghost use Rattle.village_box.specs.Stations.{EndsIn, EndsWhole, FollowsOn, GainsIn, Starts, outcome_of};
+ghost use Rattle.village_box.specs.Taking.{Over, Served, Stays};
 
-use crate::failure::{Failure, Thing, unmoved};
 use crate::inbox::Inbox;
+use crate::refused::{Failure, Refused, Thing};
 use crate::village::Village;
+use console::Stream;
 use messages::Cause;
 use speaker::{Fault, Refusal};
+use std::io;
 use std::io::{ErrorKind, Read, Write};
 use text::Fault as Told;
 
 // So many bytes may wait to be written while there are whole things to be answered.
 const WAITING: usize = 65536;
 
+// Standard input that was not read.
+fn unread(error: io::Error) -> Failure {
+    Failure::Stream {
+        stream: Stream::Input,
+        error,
+    }
+}
+
+// Standard output that was not written.
+fn unwritten(error: io::Error) -> Failure {
+    Failure::Stream {
+        stream: Stream::Output,
+        error,
+    }
+}
+
+// A village's box at work.
 #[derive(Drop)]
 struct Station {
     village: Village,
@@ -29,7 +49,7 @@ struct Station {
 
 impl Station {
     fn new(rt: &HostRuntime, village: Village, goes_on: bool) -> Result<Station, Failure>
-        ensures { IfOk result (λ s. (s.village ≡ village) × (s.goes_on ≡ goes_on) × (s.out.items ≡ []) × Sound s.inbox × (left s.inbox ≡ [])) }
+        ensures { IfOk result (Starts village goes_on) }
     {
         let heap = rt.alloc();
         let out = Vec::with_capacity(heap, WAITING + village.room())?;
@@ -43,24 +63,25 @@ impl Station {
     }
 
     // Writes what is told.
-    fn flush<W: Write>(&mut self, rt: &HostRuntime, output: &mut W) -> Result<(), Failure>
+    fn flush<W: Write>(&mut self, output: &mut W) -> Result<(), Failure>
         ensures village { self.new.village ≡ self.old.village }
         ensures goes_on { self.new.goes_on ≡ self.old.goes_on }
         ensures inbox { self.new.inbox ≡ self.old.inbox }
         ensures out { self.new.out.items ≡ [] }
-        ensures written { OnOk result (Appends (W.contents output.old) (W.contents output.new) self.old.out.items) }
+        ensures written { OnOk result (Appends
+            (W.contents output.old) (W.contents output.new) self.old.out.items) }
     {
         let written = output.write_all(self.out.as_slice());
         self.out.clear();
-        written.map_err(|e| unmoved(rt.alloc(), "standard output", e))
+        written.map_err(unwritten)
     }
 
     // A fault of the thing that is at hand.
     fn fault(&self, cause: Fault) -> Failure {
-        Failure::Input(Told {
+        Failure::Refused(Refused::Input(Told {
             place: Thing(self.things),
             cause,
-        })
+        }))
     }
 
     // What comes of a thing that is refused: its length, if the box goes on behind it, and a fault that stops it otherwise.
@@ -83,44 +104,41 @@ impl Station {
     }
 
     // Reads more, or ends at the end of the input, where nothing may be left: whether it has ended.
-    fn read<R: Read>(&mut self, rt: &HostRuntime, input: &mut R) -> Result<bool, Failure>
+    fn read<R: Read>(&mut self, input: &mut R) -> Result<bool, Failure>
         requires sound { Sound self.old.inbox }
         requires short { length (left self.old.inbox) < 69 }
         ensures sound { Sound self.new.inbox }
         ensures village { self.new.village ≡ self.old.village }
         ensures goes_on { self.new.goes_on ≡ self.old.goes_on }
         ensures out { self.new.out ≡ self.old.out }
-        ensures gained { Gained (left self.old.inbox) (R.remaining input.old) (left self.new.inbox) (R.remaining input.new) }
-        ensures ended { IfOk result (λ ended. ended ≡ true → IsAtEnd (R.remaining input.new) × (left self.new.inbox ≡ [])) }
+        ensures gained { GainsIn self.old (R.remaining input.old) self.new (R.remaining input.new) }
+        ensures ended { IfOk result (EndsIn (R.remaining input.new) self.new) }
     {
         match self.inbox.read(input) {
             Ok(0) if self.inbox.left().is_empty() => Ok(true),
-            Ok(0) => Err(self.fault(Fault::Message(Cause::Cut))),
+            Ok(0) => Err(self.fault(Fault::NotAMessage(Cause::Cut))),
             Ok(_) => Ok(false),
             Err(e) if e.kind() == ErrorKind::Interrupted => Ok(false),
-            Err(e) => Err(unmoved(rt.alloc(), "standard input", e)),
+            Err(error) => Err(unread(error)),
         }
     }
 
     // Writes what is told, and then waits for more: whether the input has ended.
-    fn wait<R: Read, W: Write>(
-        &mut self,
-        rt: &HostRuntime,
-        input: &mut R,
-        output: &mut W,
-    ) -> Result<bool, Failure>
+    fn wait<R: Read, W: Write>(&mut self, input: &mut R, output: &mut W) -> Result<bool, Failure>
         requires sound { Sound self.old.inbox }
         requires short { length (left self.old.inbox) < 69 }
         ensures village { self.new.village ≡ self.old.village }
         ensures goes_on { self.new.goes_on ≡ self.old.goes_on }
         ensures sound { OnOk result (Sound self.new.inbox) }
         ensures out { OnOk result (self.new.out.items ≡ []) }
-        ensures written { OnOk result (Appends (W.contents output.old) (W.contents output.new) self.old.out.items) }
-        ensures gained { OnOk result (Gained (left self.old.inbox) (R.remaining input.old) (left self.new.inbox) (R.remaining input.new)) }
-        ensures ended { IfOk result (λ ended. ended ≡ true → IsAtEnd (R.remaining input.new) × (left self.new.inbox ≡ [])) }
+        ensures written { OnOk result (Appends
+            (W.contents output.old) (W.contents output.new) self.old.out.items) }
+        ensures gained { OnOk result (GainsIn
+            self.old (R.remaining input.old) self.new (R.remaining input.new)) }
+        ensures ended { IfOk result (EndsIn (R.remaining input.new) self.new) }
     {
-        self.flush(rt, output)?;
-        self.read(rt, input)
+        self.flush(output)?;
+        self.read(input)
     }
 
     // Takes so many bytes from what is left: a thing more.
@@ -143,7 +161,7 @@ impl Station {
         requires sound { Sound self.old.inbox }
         ensures sound { Sound self.new.inbox }
         ensures goes_on { self.new.goes_on ≡ self.old.goes_on }
-        ensures follows { OnOk result (Follows self.old.goes_on self.old.village self.old.out.items (left self.old.inbox) self.new.village self.new.out.items (left self.new.inbox)) }
+        ensures follows { OnOk result (FollowsOn self.old self.new) }
         ensures short { IfOk result (λ whole. whole ≡ false → length (left self.new.inbox) < 69) }
     {
         match self.village.answer(self.inbox.left(), &mut self.out) {
@@ -154,7 +172,7 @@ impl Station {
             Err(Refusal::Memory) => Err(Failure::Memory),
             Err(
                 Refusal::Fault {
-                    fault: Fault::Message(Cause::Cut),
+                    fault: Fault::NotAMessage(Cause::Cut),
                     length: None,
                 },
             ) => Ok(false),
@@ -177,14 +195,17 @@ impl Station {
         requires sound { Sound self.old.inbox }
         ensures goes_on { self.new.goes_on ≡ self.old.goes_on }
         ensures sound { OnOk result (Sound self.new.inbox) }
-        ensures stays { OnOk result (Stays (outcome self.old.goes_on (W.contents output.old) self.old.village self.old.out.items (left self.old.inbox) (R.remaining input.old)) (outcome self.old.goes_on (W.contents output.new) self.new.village self.new.out.items (left self.new.inbox) (R.remaining input.new))) }
-        ensures ended { IfOk result (λ ended. ended ≡ true → (self.new.out.items ≡ []) × (left self.new.inbox ≡ []) × IsAtEnd (R.remaining input.new)) }
+        ensures stays { OnOk result (Stays
+            (outcome_of self.old.goes_on self.old (W.contents output.old) (R.remaining input.old))
+            (outcome_of
+            self.old.goes_on self.new (W.contents output.new) (R.remaining input.new))) }
+        ensures ended { IfOk result (EndsWhole (R.remaining input.new) self.new) }
     {
         if !self.take(rt)? {
-            return self.wait(rt, input, output);
+            return self.wait(input, output);
         }
         if self.out.len() > WAITING {
-            self.flush(rt, output)?;
+            self.flush(output)?;
             return Ok(false);
         }
         Ok(false)
@@ -199,7 +220,9 @@ impl Station {
         output: &mut W,
     ) -> Result<(), Failure>
         requires sound { Sound self.old.inbox }
-        ensures stays { OnOk result (Over (outcome self.old.goes_on (W.contents output.old) self.old.village self.old.out.items (left self.old.inbox) (R.remaining input.old)) (W.contents output.new)) }
+        ensures stays { OnOk result (Over
+            (outcome_of self.old.goes_on self.old (W.contents output.old) (R.remaining input.old))
+            (W.contents output.new)) }
     {
         // as many steps as no run makes
         for _ in 0..u64::MAX {
@@ -207,12 +230,12 @@ impl Station {
                 return Ok(());
             }
         }
-        let error = ErrorKind::Other.into();
-        Err(unmoved(rt.alloc(), "standard input", error))
+        Err(unread(ErrorKind::Other.into()))
     }
 }
 
-// Runs a village's box over an input, to its end or to the first thing that stops it; what was told before that is written.
+/// Runs a village's box over an input, to its end or to the first thing that stops it; what was told before that is
+/// written.
 #[tactic(auto, using(crate::proofs::Steps::served))]
 pub(crate) fn serve<R: Read, W: Write>(
     rt: &HostRuntime,
@@ -221,12 +244,13 @@ pub(crate) fn serve<R: Read, W: Write>(
     input: &mut R,
     output: &mut W,
 ) -> Result<(), Failure>
-    ensures { OnOk result (Served goes_on village (W.contents output.old) (R.remaining input.old) (W.contents output.new)) }
+    ensures { OnOk result (Served goes_on village
+        (W.contents output.old) (R.remaining input.old) (W.contents output.new)) }
 {
     let mut station = Station::new(rt, village, goes_on)?;
     let done = station.go(rt, input, output);
     if done.is_err() {
-        let _ = station.flush(rt, output);
+        let _ = station.flush(output);
     }
     done
 }

@@ -1,5 +1,6 @@
--- What a reader of bytes has before it, and numbers of several bytes. Assumes nothing.
-use Rattle.std.specs.Prelude.{ℕ, ◌+◌, ◌*◌, List, slice_index}
+-- What a reader of bytes has before it. Assumes nothing.
+use Rattle.std.specs.Prelude.{◌≡◌, ℕ, ◌+◌, ◌<◌, ◌≤◌, List, length, slice_index}
+use Rattle.wire.specs.Numbers.{word16, word32}
 use Rattle.wire.specs.declared.reader.Reader.{Reader}
 
 -- all the bytes, those that are read too
@@ -10,10 +11,23 @@ input r = r.bytes.now
 abbrev pub place : Reader → ℕ
 place r = r.at
 
--- the number that two bytes are, the high one first
-abbrev pub word16 : List ℕ → ℕ → ℕ
-word16 bs k = slice_index bs k * 256 + slice_index bs (k + 1)
+-- nothing is left, and nothing is read
+abbrev pub Ended : Reader → Reader → Type 0
+Ended old new = (length (input old) ≤ place old) × (place new ≡ place old)
 
--- the number that four bytes are, the highest first
-abbrev pub word32 : List ℕ → ℕ → ℕ
-word32 bs k = slice_index bs k * 16777216 + slice_index bs (k + 1) * 65536 + slice_index bs (k + 2) * 256 + slice_index bs (k + 3)
+-- fewer than k bytes are left, and nothing is read
+abbrev pub Short : ℕ → Reader → Reader → Type 0
+Short k old new = (length (input old) < place old + k) × (place new ≡ place old)
+
+-- the next byte is this, or the next two, or four, are this number
+abbrev pub ByteRead : Reader → Reader → ℕ → Type 0
+ByteRead old new b =
+    (place old < length (input old)) × (b ≡ slice_index (input old) (place old)) × (place new ≡ place old + 1)
+
+abbrev pub WordRead : Reader → Reader → ℕ → Type 0
+WordRead old new w =
+    (place old + 2 ≤ length (input old)) × (w ≡ word16 (input old) (place old)) × (place new ≡ place old + 2)
+
+abbrev pub LongRead : Reader → Reader → ℕ → Type 0
+LongRead old new w =
+    (place old + 4 ≤ length (input old)) × (w ≡ word32 (input old) (place old)) × (place new ≡ place old + 4)

@@ -1,4 +1,4 @@
-// Bytes that are read one after the other, high byte first.
+//! Bytes that are read one after the other, high byte first.
 #![tactic(auto)]
 
 mod reader;

@@ -1,21 +1,22 @@
 // What a list of blocks says and lends, and how it grows.
 ghost use Rattle.std.specs.Prelude.{◌≡◌, ◌<◌, ◌≤◌, [], ◌∷◌, ◌++◌, length, OnErr, OnOk, MatchOption, MatchResult, slice_index, vec_items, vec_len};
-ghost use Rattle.blocks.specs.Fit.{Pushed, Same, told};
+ghost use Rattle.blocks.specs.Fit.{Pushed, Same, unfit};
+ghost use Rattle.blocks.specs.Shown.{IsBlockAt, count_of, firsts_of, homes_of, lasts_of, lent_firsts, lent_lasts};
 
 use crate::block_list::{Block, BlockList, Unfit};
 use crate::blocks::Blocks;
 use std::alloc::{AllocError, Global};
 use text::Address;
 
-// The most blocks that there may be.
+/// The most blocks that there may be.
 pub const MOST: u16 = 256;
 
 impl BlockList {
-    // No blocks.
+    /// No blocks.
     pub fn new(heap: Global) -> BlockList
-        ensures firsts { vec_items result.firsts ≡ [] }
-        ensures lasts { vec_items result.lasts ≡ [] }
-        ensures homes { vec_items result.homes ≡ [] }
+        ensures firsts { firsts_of result ≡ [] }
+        ensures lasts { lasts_of result ≡ [] }
+        ensures homes { homes_of result ≡ [] }
     {
         BlockList {
             firsts: Vec::new(heap),
@@ -24,26 +25,26 @@ impl BlockList {
         }
     }
 
-    // How many blocks there are.
+    /// How many blocks there are.
     pub fn len(&self) -> u16
-        ensures { result ≡ vec_len self.now.firsts }
+        ensures { result ≡ count_of self.now }
     {
         self.firsts.len() as u16
     }
 
-    // A block, if there are so many.
+    /// Block `block`, counted from 0; none past the last.
     pub fn block(&self, block: u16) -> Option<Block>
-        ensures { MatchOption result (vec_len self.now.firsts ≤ block) (λ b. (block < vec_len self.now.firsts) × (b.first.0 ≡ slice_index (vec_items self.now.firsts) block) × (b.last.0 ≡ slice_index (vec_items self.now.lasts) block) × (b.home ≡ slice_index (vec_items self.now.homes) block)) }
+        ensures { MatchOption result (count_of self.now ≤ block) (IsBlockAt self.now block) }
     {
         (block < self.len()).then(|| self.at(block))
     }
 
     // A block that there is.
     pub(crate) fn at(&self, block: u16) -> Block
-        requires { block < vec_len self.now.firsts }
-        ensures first { result.first.0 ≡ slice_index (vec_items self.now.firsts) block }
-        ensures last { result.last.0 ≡ slice_index (vec_items self.now.lasts) block }
-        ensures home { result.home ≡ slice_index (vec_items self.now.homes) block }
+        requires { block < count_of self.now }
+        ensures first { result.first.0 ≡ slice_index (firsts_of self.now) block }
+        ensures last { result.last.0 ≡ slice_index (lasts_of self.now) block }
+        ensures home { result.home ≡ slice_index (homes_of self.now) block }
     {
         let block = usize::from(block);
         Block {
@@ -53,10 +54,10 @@ impl BlockList {
         }
     }
 
-    // The addresses of the blocks.
+    /// The addresses of the blocks, to look up in.
     pub fn blocks(&self) -> Blocks<'_>
-        ensures firsts { result.firsts.now ≡ vec_items self.now.firsts }
-        ensures lasts { result.lasts.now ≡ vec_items self.now.lasts }
+        ensures firsts { lent_firsts result ≡ firsts_of self.now }
+        ensures lasts { lent_lasts result ≡ lasts_of self.now }
     {
         Blocks {
             firsts: &self.firsts,
@@ -64,14 +65,14 @@ impl BlockList {
         }
     }
 
-    // The homes, by block.
+    /// The homes, by block.
     pub fn homes(&self) -> &[u8]
-        ensures { result.now ≡ vec_items self.now.homes }
+        ensures { result.now ≡ homes_of self.now }
     {
         &self.homes
     }
 
-    // A block more, after the others. Where it may not stand there, nothing changes.
+    /// A block more, after the others. Where it may not stand there, or memory could not be had, nothing changes.
     pub fn push(&mut self, block: Block) -> Result<(), Unfit>
         ensures { Pushed self.old self.new block result }
     {
@@ -81,7 +82,8 @@ impl BlockList {
 
     // Whether a block may stand after the others.
     fn admit(&self, block: Block) -> Result<(), Unfit>
-        ensures { MatchResult result (λ _. told (vec_items self.now.firsts) (vec_items self.now.lasts) block ≡ None) (λ e. told (vec_items self.now.firsts) (vec_items self.now.lasts) block ≡ Some e) }
+        ensures { let why = unfit (firsts_of self.now) (lasts_of self.now) block in
+            MatchResult result (λ _. why ≡ None) (λ e. why ≡ Some e) }
     {
         if let Some(first) = self.firsts.last()
             && block.first.0 <= *first
@@ -105,10 +107,11 @@ impl BlockList {
     // The block more, for which room is made before anything is written.
     #[tactic(auto, using(crate::proofs::Grown::stands))]
     fn append(&mut self, block: Block) -> Result<(), AllocError>
-        requires { told (vec_items self.old.firsts) (vec_items self.old.lasts) block ≡ None }
-        ensures firsts { OnOk result (vec_items self.new.firsts ≡ vec_items self.old.firsts ++ block.first.0 ∷ []) }
-        ensures lasts { OnOk result (vec_items self.new.lasts ≡ vec_items self.old.lasts ++ block.last.0 ∷ []) }
-        ensures homes { OnOk result (vec_items self.new.homes ≡ vec_items self.old.homes ++ block.home ∷ []) }
+        requires { unfit (firsts_of self.old) (lasts_of self.old) block ≡ None }
+        ensures firsts { OnOk result (firsts_of self.new ≡
+            firsts_of self.old ++ block.first.0 ∷ []) }
+        ensures lasts { OnOk result (lasts_of self.new ≡ lasts_of self.old ++ block.last.0 ∷ []) }
+        ensures homes { OnOk result (homes_of self.new ≡ homes_of self.old ++ block.home ∷ []) }
         ensures same { OnErr result (Same self.old self.new) }
     {
         self.firsts.reserve(1)?;

@@ -1,60 +1,44 @@
-// Hearing an update.
-ghost use Rattle.std.specs.Prelude.{◌≡◌, ℕ, ◌<◌, true, OnErr, vec_len};
-ghost use Rattle.relations.specs.Sound.{relation as relation_of};
-ghost use Rattle.selection.specs.Paths.{count, row};
-ghost use Rattle.selection.specs.Rows.{with_row};
-ghost use Rattle.advertisement.specs.Audiences.{in_audience};
+//! Hearing an update.
+ghost use Rattle.std.specs.Prelude.{◌≡◌, ◌<◌, true, OnErr};
+ghost use Rattle.model.specs.Hearing.{only};
+ghost use Rattle.model.specs.Local.{retold};
+ghost use Rattle.model.specs.Paths.{path_over};
+ghost use Rattle.selection.specs.Changes.{ChangesRow};
+ghost use Rattle.selection.specs.Paths.{count};
+ghost use Rattle.advertisement.specs.Updates.{block_of, news, said};
 ghost use Rattle.advertisement.specs.declared.update.Update.TheVariants.{Announce};
-ghost use Rattle.links.specs.Answers.{Answered, Refuses};
-ghost use Rattle.links.specs.Held.{announcement, fits, held, news, then_held, world};
-ghost use Rattle.links.specs.Hearing.{after_hearing, hearing_fault, only, teller_has, told, way_has};
-ghost use Rattle.links.specs.Local.{retold, sends};
+ghost use Rattle.links.specs.Answers.{Audience, Refuses};
+ghost use Rattle.links.specs.Held.{audiences_of, blocks_of, fits, held, number_of, then_held};
+ghost use Rattle.links.specs.Held.{world_for};
+ghost use Rattle.links.specs.Rules.{AnswersHearing, held_after_hearing, teller_fault, update_fault};
+ghost use Rattle.links.specs.Rules.{way_fault};
 
-use crate::fault::Fault;
-use crate::paths::{begins, below, ends, is_valley_free, repeats};
+use crate::paths::{begins, below, ends_at_home, is_valley_free, repeats};
 use crate::router::Router;
 use crate::tables::Tables;
-use advertisement::{Announcement, Audience, Update};
-use relations::Relations;
-use selection::PathTable;
-
-// Refuses the way of a path for the block of `home` that network `me` hears from `from`, if something is wrong with it.
-fn check_way(relations: &Relations, me: u8, from: u8, home: u8, path: &[u8]) -> Result<(), Fault>
-    ensures { Refuses (told (way_has (relation_of relations.now) me from home path.now)) result }
-{
-    if !begins(path, from) {
-        return Err(Fault::WrongStart);
-    }
-    if !ends(path, home) {
-        return Err(Fault::WrongEnd);
-    }
-    if repeats(path) {
-        return Err(Fault::Repeats);
-    }
-    if !is_valley_free(relations, me, path) {
-        return Err(Fault::NotPaid);
-    }
-    Ok(())
-}
+use advertisement::{Announcement, Update};
+use model::Fault;
+use selection::{NetworkSet, PathTable, World};
 
 impl Router {
-    // Refuses the teller of an update of a block that is not there, not related, or whose link is down.
+    // Refuses the teller of an update of a block that is not there, not related, or whose link is
+    // down.
     fn check_teller(
         self,
-        relations: &Relations,
+        world: World<'_>,
         tables: &Tables,
         from: u8,
         block: u16,
     ) -> Result<(), Fault>
-        ensures { Refuses (told (teller_has (world relations.now tables.now) self.number (held self tables.now) from block)) result }
+        ensures { Refuses (teller_fault self world.entry tables.now from block) result }
     {
-        if from >= relations.networks() {
+        if from >= world.relations.networks() {
             return Err(Fault::NoSuchNetwork);
         }
         if block >= tables.blocks() {
             return Err(Fault::NoSuchBlock);
         }
-        if !relations.relation(self.number, from).is_related() {
+        if !world.relations.relation(self.number, from).is_related() {
             return Err(Fault::NotRelated);
         }
         if !self.up.contains(from) {
@@ -63,78 +47,118 @@ impl Router {
         Ok(())
     }
 
-    // Refuses an announcement, if something is wrong with its path, its teller, or the way of the path.
+    // Refuses the way of a path for a block that it hears from a neighbour, if something is wrong
+    // with it.
+    fn check_way(
+        self,
+        world: World<'_>,
+        tables: &Tables,
+        from: u8,
+        block: u16,
+        path: &[u8],
+    ) -> Result<(), Fault>
+        ensures { Refuses (way_fault self world.entry tables.now from block (path_over path.now))
+            result }
+    {
+        if !begins(path, from) {
+            return Err(Fault::WrongStart);
+        }
+        if !ends_at_home(path, world, block) {
+            return Err(Fault::WrongEnd);
+        }
+        if repeats(path) {
+            return Err(Fault::Repeats);
+        }
+        if !is_valley_free(world.relations, self.number, path) {
+            return Err(Fault::NotValleyFree);
+        }
+        Ok(())
+    }
+
+    // Refuses an announcement, if something is wrong with its path, its teller, or the way of the
+    // path.
     fn check_announcement(
         self,
-        relations: &Relations,
+        world: World<'_>,
         tables: &Tables,
         from: u8,
         announced: &Announcement,
     ) -> Result<(), Fault>
-        ensures { Refuses (hearing_fault (world relations.now tables.now) self.number (held self tables.now) from (announcement announced.now)) result }
+        ensures { Refuses
+            (update_fault self world.entry tables.now from (news (Announce announced.now)))
+            result }
     {
         let path = announced.path().ok_or(Fault::BadLength)?;
-        if !below(path, relations.networks()) {
+        if !below(path, world.relations.networks()) {
             return Err(Fault::NoSuchNetwork);
         }
-        self.check_teller(relations, tables, from, announced.block)?;
-        let home = tables.home(announced.block).ok_or(Fault::NoSuchBlock)?;
-        check_way(relations, self.number, from, home, path)
+        self.check_teller(world, tables, from, announced.block)?;
+        self.check_way(world, tables, from, announced.block, path)
     }
 
-    // Refuses an update from a neighbour, if something is wrong with it: of its faults the one with the lowest number.
+    // Refuses an update from a neighbour, if something is wrong with it: of its faults the one with
+    // the lowest number.
     fn check(
         self,
-        relations: &Relations,
+        world: World<'_>,
         tables: &Tables,
         from: u8,
         update: &Update,
     ) -> Result<(), Fault>
-        ensures { Refuses (hearing_fault (world relations.now tables.now) self.number (held self tables.now) from (news update.now)) result }
+        ensures { Refuses (update_fault self world.entry tables.now from (news update.now))
+            result }
     {
         match update {
-            Update::Announce(announced) => self.check_announcement(
-                relations, tables, from, announced,
-            ),
-            Update::Withdraw { block } => self.check_teller(relations, tables, from, *block),
+            Update::Announce(announced) => self.check_announcement(world, tables, from, announced),
+            Update::Withdraw { block } => self.check_teller(world, tables, from, *block),
         }
     }
 
-    // Takes what an update says of its block: writes it over what was received from its teller, selects anew and tells.
-    fn take(self, relations: &Relations, tables: &mut Tables, from: u8, update: &Update) -> Audience
-        requires there { (news update.now).block < vec_len tables.old.homes }
+    // Takes what an update says of its block: writes it over what was received from its teller,
+    // selects anew and tells.
+    fn take(self, world: World<'_>, tables: &mut Tables, from: u8, update: &Update) -> NetworkSet
+        requires there { block_of update.now < blocks_of tables.old }
         requires fits { fits (count tables.old.received) from update.now ≡ true }
-        ensures homes { tables.new.homes ≡ tables.old.homes }
+        ensures blocks { blocks_of tables.new ≡ blocks_of tables.old }
         ensures audiences { tables.new.audiences ≡ tables.old.audiences }
-        ensures received { (b k : ℕ) → row tables.new.received b k ≡ with_row (row tables.old.received) (news update.now).block from (news update.now).says b k }
-        ensures held { held self tables.new ≡ retold (world relations.now tables.old) self.number (only (news update.now).block) (then_held self tables.new tables.old) }
-        ensures whom { (k : ℕ) → in_audience result k ≡ sends (world relations.now tables.old) self.number (only (news update.now).block) (then_held self tables.new tables.old) (news update.now).block k }
+        ensures received { ChangesRow tables.old.received tables.new.received
+            (block_of update.now) from (said update.now) }
+        ensures held { held self tables.new
+            ≡ retold (world_for world.entry tables.old) (number_of self)
+            (only (block_of update.now)) (then_held self tables.new tables.old) }
+        ensures whom { Audience (world_for world.entry tables.old) (number_of self)
+            (only (block_of update.now)) (then_held self tables.new tables.old)
+            (block_of update.now) result }
     {
         receive(&mut tables.received, from, update);
-        self.retell(relations, tables, update.block())
+        self.export(world, tables, update.block())
     }
 
-    // Hears an update from a neighbour: refuses it, or takes it, selects anew for its block and tells. Who sends stands
-    // beside what it sends, since the update is the message as it came. The router is handed back as it was, a form that
-    // the project asks for (docs/DECISIONS.md).
+    /// Hears an update from a neighbour: refuses it, or takes it, selects anew for its block and
+    /// tells; the answer names those to whom what now stands in the table of what is advertised
+    /// goes. The router is handed back as it was.
+    ///
+    /// # Errors
+    /// Of the update's faults the one with the lowest number; then nothing is changed.
     pub fn hear(
         self,
-        relations: &Relations,
+        world: World<'_>,
         tables: &mut Tables,
         from: u8,
         update: Update,
-    ) -> (Router, Result<Audience, Fault>)
+    ) -> (Router, Result<NetworkSet, Fault>)
         ensures router { result.0 ≡ self }
-        ensures homes { tables.new.homes ≡ tables.old.homes }
-        ensures audiences { tables.new.audiences ≡ tables.old.audiences }
-        ensures held { held self tables.new ≡ after_hearing (world relations.now tables.old) self.number from (news update) (held self tables.old) }
-        ensures answer { Answered (world relations.now tables.old) self.number (held self tables.old) from (news update) result.1 }
+        ensures blocks { blocks_of tables.new ≡ blocks_of tables.old }
+        ensures audiences { audiences_of tables.new ≡ audiences_of tables.old }
+        ensures held { held self tables.new
+            ≡ held_after_hearing self world.entry tables.old from (news update) }
+        ensures answer { AnswersHearing self world.entry tables.old from (news update) result.1 }
         ensures kept { OnErr result.1 (tables.new ≡ tables.old) }
     {
-        if let Err(fault) = self.check(relations, tables, from, &update) {
+        if let Err(fault) = self.check(world, tables, from, &update) {
             return (self, Err(fault));
         }
-        let audience = self.take(relations, tables, from, &update);
+        let audience = self.take(world, tables, from, &update);
         (self, Ok(audience))
     }
 }
@@ -143,7 +167,8 @@ impl Router {
 fn receive_path(received: &mut PathTable, from: u8, announced: &Announcement)
     requires { fits (count received.old) from (Announce announced.now) ≡ true }
     ensures same { count received.new ≡ count received.old }
-    ensures rows { (b k : ℕ) → row received.new b k ≡ with_row (row received.old) (announcement announced.now).block from (announcement announced.now).says b k }
+    ensures rows { ChangesRow received.old received.new announced.now.block from
+        (said (Announce announced.now)) }
 {
     if let Some(path) = announced.path() {
         received.set(announced.block, from, path);
@@ -154,7 +179,8 @@ fn receive_path(received: &mut PathTable, from: u8, announced: &Announcement)
 fn receive(received: &mut PathTable, from: u8, update: &Update)
     requires { fits (count received.old) from update.now ≡ true }
     ensures same { count received.new ≡ count received.old }
-    ensures rows { (b k : ℕ) → row received.new b k ≡ with_row (row received.old) (news update.now).block from (news update.now).says b k }
+    ensures rows { ChangesRow received.old received.new (block_of update.now) from
+        (said update.now) }
 {
     match update {
         Update::Announce(announced) => receive_path(received, from, announced),

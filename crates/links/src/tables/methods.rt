@@ -1,26 +1,29 @@
-// Making and reading the tables.
-ghost use Rattle.std.specs.Prelude.{◌≡◌, ◌<◌, ◌≤◌, length, if◌then◌else◌, Some, None, vec_len, MatchOption, MatchResult, nat_lt, slice_index, slice_index_or};
+//! Making and reading the tables.
+ghost use Rattle.std.specs.Prelude.{◌≡◌, ◌<◌, ◌≤◌, MatchOption, MatchResult, slice_index_or};
+ghost use Rattle.std.specs.Option.{option_map};
+ghost use Rattle.model.specs.Paths.{path_over};
+ghost use Rattle.selection.specs.declared.table.methods.TheConstants.{MOST_BLOCKS};
 ghost use Rattle.selection.specs.Paths.{row};
 ghost use Rattle.advertisement.specs.Updates.{block_of, said};
+ghost use Rattle.links.specs.Held.{audiences_of, blocks_of};
 ghost use Rattle.links.specs.Made.{Fresh, IfTooLarge, Same};
 
+use crate::creation_error::CreationError;
 use crate::tables::Tables;
-use crate::unmade::Unmade;
-use advertisement::{Audience, Update, update_of};
-use selection::{MOST_BLOCKS, PathTable};
+use advertisement::{Update, update_of};
+use selection::{MOST_BLOCKS, NetworkSet, PathTable};
 use std::alloc::{AllocError, Global};
 
-// Tables of their own that hold the same. By hand, since beside a ghost field it is derived only for a `Copy` type.
+// Tables of their own that hold the same. By hand, since beside a ghost field it is derived only
+// for a `Copy` type.
 impl Clone for Tables {
     ghost is_clone = { Same };
 
     fn clone(&self) -> Result<Tables, AllocError> {
-        let homes = self.homes.clone()?;
         let received = self.received.clone()?;
         let advertised = self.advertised.clone()?;
         let audiences = self.audiences.clone()?;
         Ok(Tables {
-            homes,
             received,
             advertised,
             audiences,
@@ -29,59 +32,63 @@ impl Clone for Tables {
 }
 
 impl Tables {
-    // Nothing was received or advertised. Refused for more than 256 blocks.
-    pub fn new(heap: Global, homes: &[u8]) -> Result<Tables, Unmade>
-        ensures { MatchResult result (Fresh homes.now) (IfTooLarge (256 < length homes.now)) }
+    /// Tables of so many blocks, in which nothing was received or advertised.
+    ///
+    /// # Errors
+    /// There are more than 256 blocks, or memory could not be had.
+    pub fn new(heap: Global, blocks: u16) -> Result<Tables, CreationError>
+        ensures { MatchResult result (Fresh blocks) (IfTooLarge (MOST_BLOCKS < blocks)) }
     {
-        if homes.len() > MOST_BLOCKS as usize {
-            return Err(Unmade::TooLarge);
+        if blocks > MOST_BLOCKS {
+            return Err(CreationError::TooLarge);
         }
-        let blocks = homes.len() as u16;
         let received = PathTable::new(heap, blocks)?;
         let advertised = PathTable::new(heap, blocks)?;
-        let audiences = vec![in heap; Audience::none(); homes.len()]?;
-        let homes = homes.to_vec(heap)?;
+        let audiences = vec![in heap; NetworkSet::none(); blocks as usize]?;
         Ok(Tables {
-            homes,
             received,
             advertised,
             audiences,
         })
     }
 
-    // How many blocks there are.
+    /// How many blocks there are.
     pub fn blocks(&self) -> u16
-        ensures { result ≡ vec_len self.now.homes }
+        ensures { result ≡ blocks_of self.now }
     {
-        self.homes.len() as u16
+        self.received.blocks()
     }
 
-    // Who was to be told of a block when a link turned last, if there is such a block.
-    pub fn audience(&self, block: u16) -> Option<Audience>
-        ensures { MatchOption result (vec_len self.now.homes ≤ block) (λ a. (block < vec_len self.now.homes) × (a ≡ slice_index_or self.now.audiences.items block a)) }
+    /// Who was to be told of a block when a link turned last, if there is such a block.
+    pub fn audience(&self, block: u16) -> Option<NetworkSet>
+        ensures none { MatchOption result (blocks_of self.now ≤ block)
+            (λ _. block < blocks_of self.now) }
+        ensures some { MatchOption result (Unit {0})
+            (λ a. a ≡ slice_index_or (audiences_of self.now) block a) }
     {
         self.audiences.get(block as usize).copied()
     }
 
-    // Who was to be told of each block when a link turned last.
-    pub fn audiences(&self) -> &[Audience]
-        ensures { result.now ≡ self.now.audiences.items }
+    /// Who was to be told of each block when a link turned last.
+    pub fn audiences(&self) -> &[NetworkSet]
+        ensures { result.now ≡ audiences_of self.now }
     {
         &self.audiences
     }
 
-    // What was told a neighbour last of a block, as the update that tells it.
+    /// What was told a neighbour last of a block, as the part of the table where it stands.
+    pub fn told(&self, block: u16, neighbour: u8) -> Option<&[u8]>
+        ensures { option_map (λ x. path_over x.now) result
+            ≡ row self.now.advertised block neighbour }
+    {
+        self.advertised.path(block, neighbour)
+    }
+
+    /// What was told a neighbour last of a block, as the update that tells it.
     pub fn update(&self, block: u16, neighbour: u8) -> Update
         ensures block { block_of result ≡ block }
         ensures says { said result ≡ row self.now.advertised block neighbour }
     {
         update_of(&self.advertised, block, neighbour)
-    }
-
-    // The home of a block, if there is such a block.
-    pub fn home(&self, block: u16) -> Option<u8>
-        ensures { result ≡ (if nat_lt block (vec_len self.now.homes) then Some (slice_index self.now.homes.items block) else None) }
-    {
-        self.homes.get(block as usize).copied()
     }
 }

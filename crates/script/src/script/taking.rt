@@ -37,7 +37,9 @@ impl<'a> Script<'a> {
         read: F,
     ) -> Result<Option<T>, Cause>
         requires { F.IsAlwaysCallable read }
-        ensures ahead { (reads : Reader T) → Reads (FnReturnsAt F.Fn read) reads → ahead_by reads (line_of self.old) (left_of self.old) ≡ record { answer = result; line = line_of self.new; left = left_of self.new } }
+        ensures ahead { (reads : Reader T) → Reads (FnReturnsAt F.Fn read) reads →
+            ahead_by reads (line_of self.old) (left_of self.old) ≡
+            record { answer = result; line = line_of self.new; left = left_of self.new } }
         ensures falls { Falls result (length (left_of self.old)) (length (left_of self.new)) }
     {
         while !self.rest.is_empty() {

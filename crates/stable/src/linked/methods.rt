@@ -1,16 +1,17 @@
-// Making, reading and turning links.
-ghost use Rattle.std.specs.Prelude.{◌≡◌, ℕ, false, ◌&&◌, MatchResult, nat_lt};
+//! Making, reading and turning links.
+ghost use Rattle.std.specs.Prelude.{◌≡◌, ℕ, false, ◌&&◌, OnErr, MatchResult, nat_lt};
 ghost use Rattle.std.specs.List.{slice_get};
+ghost use Rattle.model.specs.declared.limits.TheConstants.{MOST_NETWORKS};
 ghost use Rattle.selection.specs.Sets.{member};
 ghost use Rattle.stable.specs.Linked.{TurnRefused, Turned, in_some, up};
 
 use crate::linked::LinkSet;
-use links::Fault;
+use model::Fault;
 use relations::Relations;
 use selection::NetworkSet;
 
 impl LinkSet {
-    // Every link is down.
+    /// Every link is down.
     pub fn none() -> LinkSet
         ensures { (i j : ℕ) → up result i j ≡ false }
     {
@@ -19,7 +20,7 @@ impl LinkSet {
         }
     }
 
-    // Whether the link of two networks is up.
+    /// Whether the link of two networks is up.
     pub fn is_up(&self, one: u8, other: u8) -> bool
         ensures { result ≡ up self.now one other }
     {
@@ -29,7 +30,10 @@ impl LinkSet {
         }
     }
 
-    // The link of two networks turns, or is turned to what it is already.
+    /// The link of two networks turns, or is turned to what it is already.
+    ///
+    /// # Errors
+    /// A network that there is not, or two that are not related; then nothing is changed.
     #[tactic(auto, using(crate::proofs::Links::one_turned))]
     pub fn turn(
         &mut self,
@@ -38,7 +42,10 @@ impl LinkSet {
         other: u8,
         is_up: bool,
     ) -> Result<(), Fault>
-        ensures { MatchResult result (λ _. Turned relations.now one other is_up self.old self.new) (λ fault. TurnRefused relations.now one other fault × (self.new ≡ self.old)) }
+        ensures turned { MatchResult result
+            (λ _. Turned relations.now one other is_up self.old self.new)
+            (λ fault. TurnRefused relations.now one other fault) }
+        ensures kept { OnErr result (self.new ≡ self.old) }
     {
         let networks = relations.networks();
         if one >= networks || other >= networks {
@@ -56,9 +63,9 @@ impl LinkSet {
 }
 
 // Apart, since what an array literal holds is known where a contract says it.
-
 fn all(ends: NetworkSet) -> [NetworkSet; 64]
-    ensures { (i j : ℕ) → in_some (slice_get result i) j ≡ (nat_lt i 64 && member ends j) }
+    ensures { (i j : ℕ) →
+        in_some (slice_get result i) j ≡ (nat_lt i MOST_NETWORKS && member ends j) }
 {
     [ends; 64]
 }

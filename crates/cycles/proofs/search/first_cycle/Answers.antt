@@ -1,6 +1,6 @@
 -- The walk up from each network tells whether a cycle has it for its lowest member.
 use Rattle.std.proofs.Common.{sym, subst, arith}
-use Rattle.relations.specs.Cycle.{First}
+use Rattle.model.specs.Cycles.{First}
 use Rattle.relations.specs.Table.{count, rel}
 use Rattle.relations.proofs.Tables.{within}
 use Rattle.cycles.proofs.Rings.{no_cycle, is_first, none_more}

@@ -1,5 +1,5 @@
 use Rattle.std.proofs.Common.{◌≡◌, drop}
-use Rattle.links.specs.Paths.{descends, valley_free}
+use Rattle.model.specs.Paths.{descends, valley_free}
 use Rattle.relations.specs.Sound.{relation}
 use Rattle.links.proofs.paths.is_valley_free.Given as goal
 

@@ -1,6 +1,6 @@
 -- What is left repeats a network as the whole does.
 use Rattle.std.proofs.Common.{◌≡◌, length}
-use Rattle.links.specs.Paths.{repeats}
+use Rattle.model.specs.Paths.{repeats}
 use Rattle.links.proofs.paths.repeats.Given as goal
 
 abbrev pub invariant-loop-first : goal.invariant-loop-first

@@ -1,5 +1,5 @@
 -- The third word says nothing, or a word follows it.
-use Rattle.std.proofs.Common.{◌≡◌, ◌≢◌, ℕ, Bool, List, [], ◌∷◌, Some, None, Err, refl, sym, ap, ◌∙◌}
+use Rattle.std.proofs.Common.{◌≡◌, ℕ, Bool, true, List, ◌∷◌, is_some, Some, None, Err, slice_get, refl, sym, ap, ◌∙◌}
 use Rattle.std.proofs.lemmas.Result.{err_from_is_err_and}
 use Rattle.script.specs.declared.cause.Cause.TheVariants.{SurplusWord, UnknownWord}
 use Rattle.script.specs.Faults.{standing}
@@ -8,12 +8,10 @@ use Rattle.script.proofs.turns.read_turn.Goals as goal
 
 module _ (n : ℕ) (w v s : List ℕ) where
   unknown : (ws : List (List ℕ)) → standing s ≡ None → read_turn n (w ∷ v ∷ s ∷ ws) ≡ Err UnknownWord
-  unknown [] e = rw e refl
-  unknown (x ∷ xs) e = rw e refl
+  unknown ws e = rw e refl
 
-  surplus : (up : Bool) (ws : List (List ℕ)) → standing s ≡ Some up → ws ≢ [] → read_turn n (w ∷ v ∷ s ∷ ws) ≡ Err SurplusWord
-  surplus up [] e some = absurd (some refl)
-  surplus up (x ∷ xs) e some = rw e refl
+  surplus : (up : Bool) (ws : List (List ℕ)) → standing s ≡ Some up → is_some (slice_get ws 0) ≡ true → read_turn n (w ∷ v ∷ s ∷ ws) ≡ Err SurplusWord
+  surplus up ws e some = rw (e, some) refl
 
 three : {w v s : List ℕ} {l m k ws : List (List ℕ)} → l ≡ w ∷ m → m ≡ v ∷ k → k ≡ s ∷ ws → w ∷ v ∷ s ∷ ws ≡ l
 three {w} {v} e f g = sym (e ∙ ap (λ m. w ∷ m) (f ∙ ap (λ k. v ∷ k) g))

@@ -3,4 +3,4 @@ use Rattle.stable.proofs.Settles.{settled}
 use Rattle.stable.proofs.routing.settle.Goals as goal
 
 pub returns : goal.returns
-returns c = settled (record { networks = record { relations = c.args.relations; links = c.args.links; home = c.args.home }; shown = c.in_ok-shown.shown; reaching = c.reaching-reaching.result }) c.in_ok-shown.ensures c.reaching-reaching.ensures
+returns c = settled (record { networks = record { world = c.args.world; links = c.args.links; block = c.args.block }; shown = c.in_ok-shown.shown; reaching = c.reaching-reaching.result }) c.in_ok-shown.ensures c.reaching-reaching.ensures

@@ -1,9 +1,9 @@
 -- Each turn reads one tie more, and the table follows it.
 use Rattle.std.proofs.Common.{◌≡◌, Ok, Err, sym, refl, ◌∙◌, arith, rules}
 use Rattle.std.proofs.lemmas.Result.{MatchResult-at_ok, MatchResult-at_err}
-use Rattle.refusals.specs.declared.refusal.Cause.{Cause}
-use Rattle.refusals.specs.declared.refusal.Place.TheVariants.{Tie}
-use Rattle.refusals.specs.declared.refusal.Refusal.TheVariants.{Fault}
+use Rattle.ties.specs.declared.refusal.Cause.{Cause}
+use Rattle.ties.specs.declared.refusal.Place.TheVariants.{Tie}
+use Rattle.ties.specs.declared.refusal.Refusal.TheVariants.{Fault}
 use Rattle.ties.proofs.Progress.{sofar_none, sofar_more, told_next}
 use Rattle.ties.proofs.decoder.read_ties.Goals as goal
 

@@ -1,6 +1,6 @@
 -- At each network: it is marked, or it is seen already or no provider.
 use Rattle.std.proofs.Common.{sym, inl, inr, arith}
-use Rattle.relations.proofs.Chains.{is_provider, not_provider}
+use Rattle.model.proofs.Chains.{is_provider, not_provider}
 use Rattle.cycles.proofs.Walks.{meet_yes, meet_no}
 use Rattle.cycles.proofs.walk.Slope.meet.Goals as goal
 use Rattle.cycles.proofs.walk.Slope.meet.Goals.{then-steps-w-eq0+then-provides, else-steps-w-eq0, else-steps-w-eq0-via-then-steps-w-eq0+else-provides, else-steps-w-eq0-via-else-steps-w-eq0}

@@ -4,11 +4,11 @@ use Rattle.std.proofs.lemmas.Bool.{eq-eqb, eqb-true}
 use Rattle.std.proofs.lemmas.Iterator.{first_from_Range}
 use Rattle.std.specs.Option.{option_eq}
 use Rattle.std.proofs.lemmas.Option.{MatchOption-at_some}
-use Rattle.relations.specs.Between.{Between, provider}
+use Rattle.model.specs.Relations.{Between, provider}
 use Rattle.relations.specs.Table.{count, rel}
 use Rattle.cycles.specs.Walk.{Climb, Fewest, Shortest}
-use Rattle.relations.specs.declared.relation.Relation.TheVariants.{Provider}
-use Rattle.relations.proofs.Chains.{is_provider, not_provider}
+use Rattle.model.specs.declared.relation.Relation.TheVariants.{Provider}
+use Rattle.model.proofs.Chains.{is_provider, not_provider}
 use Rattle.relations.proofs.Tables.{within}
 use Rattle.cycles.proofs.Walks.{in_table}
 use Rattle.cycles.proofs.Rings.{climb_first, goes_not}

@@ -2,7 +2,7 @@
 use Rattle.std.proofs.Common.{◌≡◌, ℕ, ap, ◌∙◌, replicate}
 use Rattle.std.proofs.lemmas.List.Elements.{same_from_all_zip}
 use Rattle.relations.specs.Between.{between}
-use Rattle.relations.specs.declared.relation.Relation.TheVariants.{Unrelated}
+use Rattle.model.specs.declared.relation.Relation.TheVariants.{Unrelated}
 use Rattle.relations.proofs.Tables.{between_none, none_hold}
 use Rattle.relations.proofs.matrix.Matrix.new.Goals as goal
 use Rattle.relations.proofs.matrix.Matrix.new.Goals.{In_ok-rows}

@@ -11,5 +11,5 @@ loop-network-preserved g c =
     let x = c.args.self.now.simulation.now in
     let block = c.args.self.now.block in
     let below : c.loop-network.network < (world_of x).n = omega (arith, c.networks-networks.ensures, c.loop-network-test.true) in
-    let line = next_line (world_of x) (state_of x) block c.loop-network.network _ below (shown _ _ _ _ c.block.ensures c.in-Some.is).there c.route-route.ensures in
+    let line = next_line (world_of x) (state_of x) block c.loop-network.network _ below (shown x block _ _ c.block.ensures c.in-Some.is).0 c.route-route.ensures in
     has_written_of_eq _ _ _ _ _ line (has_written_append _ _ _ _ _ _ (c.loop-network.invariant plain) (search rules))

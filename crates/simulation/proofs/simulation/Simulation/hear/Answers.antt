@@ -1,7 +1,7 @@
--- What was made aside takes its place.
+-- What was prepared takes its place.
 use Rattle.std.proofs.Common.{arith, vec_items, sym, refl, ap, ◌∙◌}
 use Rattle.std.specs.Option.{option_map}
-use Rattle.forwarding.specs.Passing.{ended_of}
+use Rattle.forwarding.specs.Forwarding.{ended_of}
 use Rattle.std.proofs.lemmas.Result.{err_from_is_err_and}
 use Rattle.simulation.proofs.Lessening.{heard_lessens}
 use Rattle.simulation.proofs.Reaching.{heard_ready}
@@ -9,13 +9,13 @@ use Rattle.simulation.proofs.Wholes.{crowded}
 use Rattle.simulation.proofs.simulation.Simulation.hear.Goals as goal
 
 pub put-requires : goal.put-requires
-put-requires c = let done = c.in_ok-aside.ensures in heard_ready c.args.self.now c.args.from c.args.to c.in_ok-aside.aside done.0 done.1 done.2
+put-requires c = let done = c.in_ok-prepared.ensures in heard_ready c.args.self.now c.args.from c.args.to c.in_ok-prepared.prepared done.0 done.1 done.2
 
 pub returns : goal.returns
 returns c =
     let x = c.args.self.now in
-    let done = c.in_ok-aside.ensures in
-    let full = crowded x _ (vec_items c.in_ok-aside.aside.letters) _ _ done.2.within (sym c.put.ensures.state) c.deref.ensures.value in
+    let done = c.in_ok-prepared.ensures in
+    let full = crowded x _ (vec_items c.in_ok-prepared.prepared.letters) _ _ done.2.within (sym c.put.ensures.state) c.deref.ensures.value in
     let state = c.put.ensures.state ∙ done.2.state in
     record {
       world = c.put.ensures.world;
@@ -26,8 +26,8 @@ returns c =
 
 pub returns-in_err-have_room-clause-played : goal.returns-in_err-have_room-clause-played
 returns-in_err-have_room-clause-played c =
-    let done = c.in_ok-aside.ensures in
-    let full = crowded c.args.self.now _ (vec_items c.in_ok-aside.aside.letters) _ _ done.2.within done.2.state c.deref.ensures.value in
+    let done = c.in_ok-prepared.ensures in
+    let full = crowded c.args.self.now _ (vec_items c.in_ok-prepared.prepared.letters) _ _ done.2.within done.2.state c.deref.ensures.value in
     let is_err = err_from_is_err_and c.from_residual-in_err-have_room.result c.from_residual-in_err-have_room.ensures.1 in
     let many = c.in_err-have_room.ensures in
     rw (is_err.1, is_err.2, many.0) ((done.0, done.1, omega (arith, full, many.1)), refl)

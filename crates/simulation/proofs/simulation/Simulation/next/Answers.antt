@@ -1,8 +1,8 @@
 -- The lowest pair has something in flight, so there is an oldest, between networks that there are.
 use Rattle.std.proofs.Common.{◌≡◌, [], vec_items, subst}
 use Rattle.std.specs.Option.{MatchOption}
-use Rattle.mail.specs.Posting.{Oldest}
-use Rattle.mail.specs.Posts.{between, posts}
+use Rattle.simulation.specs.Posting.{Oldest}
+use Rattle.simulation.specs.Posts.{between, posts}
 use Rattle.simulation.specs.Resting.{LowestEnds}
 use Rattle.simulation.proofs.Lowest.{foremost, lowest_is}
 use Rattle.simulation.proofs.simulation.Simulation.next.Goals as goal

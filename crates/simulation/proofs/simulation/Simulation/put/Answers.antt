@@ -1,9 +1,9 @@
 -- The facts of the whole hold of what takes its place.
 use Rattle.std.proofs.Common.{◌≡◌, vec_items, subst, sym, ap, ◌∙◌, map, get_or, length, arith}
-use Rattle.links.specs.Run.{Reach}
-use Rattle.mail.specs.Whole.{homes_of, number_of, whole}
-use Rattle.simulation.specs.Simulated.{homes_in, lookup_of, with_network, world_of}
-use Rattle.simulation.proofs.Placing.{placed_homes, placed_length, placed_numbers, placed_there}
+use Rattle.model.specs.Run.{Reach}
+use Rattle.simulation.specs.Whole.{blocks_in, number_of, whole}
+use Rattle.simulation.specs.Simulated.{lookup_of, with_network, world_of}
+use Rattle.simulation.proofs.Placing.{placed_blocks, placed_length, placed_numbers, placed_there}
 use Rattle.simulation.proofs.simulation.Simulation.put.Goals as goal
 use Rattle.simulation.proofs.simulation.Simulation.put.Goals.{in-Some, in_default}
 
@@ -11,7 +11,7 @@ pub invariant_of-self : goal.invariant_of-self
 invariant_of-self c =
     let x = c.args.self.now in
     let xs = vec_items x.networks in
-    let o = c.args.aside.network in
+    let o = c.args.prepared.network in
     let v = c.match-network.self.1.1.1.0 in
     let nets : vec_items v ≡ with_network xs o = elim c.match-network.branch [
       | in-Some w ↦ ap (λ t. vec_items t.1.1.1.0) w.self-is ∙ placed_there xs o w.in-Some.network w.number-number.result w.in-Some.is w.number-number.ensures
@@ -22,7 +22,7 @@ invariant_of-self c =
       few = x.few;
       small = x.small;
       numbers = λ i. ap (λ ns. get_or (map number_of ns) i i) nets ∙ placed_numbers x o i;
-      same = λ i. ap (λ ns. get_or (map homes_of ns) i (homes_in x)) nets ∙ placed_homes x o c.requires.fits i;
+      same = λ i. ap (λ ns. get_or (map blocks_in ns) i (world_of x).blocks) nets ∙ placed_blocks x o c.requires.fits i;
       within = c.requires.within;
-      reached = subst (λ ns. ∥ Reach (world_of x) (lookup_of x) (whole ns (vec_items c.args.aside.letters)) ∥₁) (sym nets) c.requires.reached;
+      reached = subst (λ ns. ∥ Reach (world_of x) (lookup_of x) (whole ns (vec_items c.args.prepared.letters)) ∥₁) (sym nets) c.requires.reached;
     }

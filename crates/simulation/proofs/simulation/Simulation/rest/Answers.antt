@@ -2,15 +2,17 @@
 use Rattle.std.proofs.Common.{◌≡◌, ◌<◌, ◌++◌, [], List, map, vec_items, sym, refl, ap, ◌∙◌, append-nil, append_assoc, subst}
 use Rattle.std.proofs.lemmas.Bool.Decides.{when_false, when_true}
 use Rattle.blocks.specs.Ranges.{block_at}
-use Rattle.links.specs.Promise.{Lookup, Settled}
-use Rattle.links.specs.World.{World}
-use Rattle.links.specs.Run.{State, links}
-use Rattle.convergence.specs.Levels.{Heights}
-use Rattle.convergence.specs.Measure.{left}
-use Rattle.forwarding.specs.Ends.{ends}
-use Rattle.forwarding.specs.Passing.{ended_of}
+use Rattle.blocks.specs.Shown.{firsts_of, lasts_of}
+use Rattle.model.specs.Packets.{Lookup}
+use Rattle.model.specs.Promise.{Settled}
+use Rattle.model.specs.World.{World}
+use Rattle.model.specs.Run.{State, links}
+use Rattle.model.specs.Levels.{Heights}
+use Rattle.model.specs.Measure.{left}
+use Rattle.model.specs.Ends.{ends}
+use Rattle.forwarding.specs.Forwarding.{ended_of}
 use Rattle.forwarding.specs.declared.packet.Ending.{Ending}
-use Rattle.delivery.specs.Flight.{Still}
+use Rattle.model.specs.Flight.{Still}
 use Rattle.simulation.specs.Resting.{HeardAll, NextTold, more, none}
 use Rattle.simulation.specs.Simulated.{lookup_of, state_of, world_of}
 use Rattle.simulation.specs.declared.simulation.Simulation.{Simulation}
@@ -20,7 +22,7 @@ use Rattle.simulation.proofs.Rested.{links_heard, next_lessens, settled}
 use Rattle.simulation.proofs.simulation.Simulation.rest.Goals as goal
 
 same_lookup : (x y : Simulation) → x.blocks ≡ y.blocks → lookup_of x ≡ lookup_of y
-same_lookup x y e = ap (λ b. block_at (vec_items b.firsts) (vec_items b.lasts)) e
+same_lookup x y e = ap (λ b. block_at (firsts_of b) (lasts_of b)) e
 
 -- one hearing more
 one_more : (w : World) (at : Lookup) (s t u : State) (before now after : List Ending) → HeardAll w at s t before now → NextTold w at t u now after → HeardAll w at s u before after

@@ -1,7 +1,7 @@
 -- What was heard so far; less is left in flight each time.
 use Rattle.std.proofs.Common.{◌≡◌, ℕ, vec_items}
-use Rattle.links.specs.Run.{links}
-use Rattle.convergence.specs.Measure.{left}
+use Rattle.model.specs.Run.{links}
+use Rattle.model.specs.Measure.{left}
 use Rattle.simulation.specs.Resting.{HeardAll}
 use Rattle.simulation.specs.Simulated.{lookup_of, state_of, world_of}
 use Rattle.simulation.proofs.Lessening.{heights}

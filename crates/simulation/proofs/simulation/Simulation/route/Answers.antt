@@ -15,4 +15,4 @@ returns c =
     let there : j < length (vec_items me.networks) = omega (arith, ltb-true j _ (sym found.0), ap length items) in
     let below : j < networks me.relations = omega (arith, there, me.networks.ok.0, me.all) in
     let is : here ≡ get_or (vec_items me.networks) j here = found.1 ∙ ap (λ l. get_or l j here) items in
-    goes_here me.relations (vec_items me.blocks.homes) (vec_items me.networks) (vec_items me.letters) j c.args.block here _ there below is (me.numbers j) (me.same j) c.route.ensures
+    goes_here me c.world.result (record { relations = c.world.ensures.relations; homes = c.world.ensures.homes }) j c.args.block here _ there below is c.route.ensures

@@ -1,11 +1,11 @@
--- What was made aside takes its place.
+-- What was prepared takes its place.
 use Rattle.std.proofs.Common.{arith, set, vec_items, sym, refl, subst}
 use mathlib.Core.Logic.{∥∥₁_map}
 use Rattle.std.proofs.lemmas.Result.{err_from_is_err_and}
-use Rattle.links.specs.Run.{Reach}
-use Rattle.simulation.specs.Simulated.{homes_in, lookup_of, state_of, world_of}
+use Rattle.model.specs.Run.{Reach}
+use Rattle.simulation.specs.Simulated.{lookup_of, state_of, world_of}
 use Rattle.simulation.proofs.Reaching.{turned_reach}
-use Rattle.simulation.proofs.Wholes.{crowded, homes_set, number_set}
+use Rattle.simulation.proofs.Wholes.{blocks_set, crowded, number_set}
 use Rattle.simulation.proofs.simulation.Simulation.turn.Goals as goal
 
 pub invariant_of-self : goal.invariant_of-self
@@ -18,9 +18,9 @@ invariant_of-self c =
     let xs = vec_items x.networks in
     let done = c.in_ok-first.ensures in
     let numbers = number_set (set xs j z) i y done.2.number (number_set xs j z done.2.number2 x.numbers) in
-    let homes = homes_set (set xs j z) i y (homes_in x) done.2.homes (homes_set xs j z (homes_in x) done.2.homes2 x.same) in
+    let blocks = blocks_set (set xs j z) i y (world_of x).blocks done.2.blocks (blocks_set xs j z (world_of x).blocks done.2.blocks2 x.same) in
     let reached = ∥∥₁_map x.reached (λ r. subst (Reach (world_of x) (lookup_of x)) (sym done.2.state) (turned_reach (world_of x) (lookup_of x) i j c.args.up (state_of x) (x.relations.matrix.apart i) done.0 done.1 r)) in
-    record { all = x.all; few = x.few; small = x.small; numbers = numbers; same = homes; within = done.2.within; reached = reached }
+    record { all = x.all; few = x.few; small = x.small; numbers = numbers; same = blocks; within = done.2.within; reached = reached }
 
 pub returns : goal.returns
 returns c =

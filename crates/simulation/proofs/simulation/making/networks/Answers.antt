@@ -1,5 +1,5 @@
 -- Each network is made by its number, up to the first that is refused.
-use Rattle.std.proofs.Common.{◌<◌, length, ⊎_elim, rules}
+use Rattle.std.proofs.Common.{◌<◌, ⊎_elim, rules}
 use Rattle.std.proofs.lemmas.Result.{IfOk-weaker, IfErr-weaker, MatchResult-from_both}
 use Rattle.std.specs.Result.{MatchResult}
 use Rattle.links.specs.Made.{IfTooLarge}
@@ -10,13 +10,13 @@ use Rattle.simulation.proofs.simulation.making.networks.Goals as goal
 
 pub returns : goal.returns
 returns c =
-    let homes = c.args.homes.now in
-    let made = counted _ _ (λ k y. MatchResult y (Fresh k homes) (IfTooLarge (256 < length homes))) _ c.args.count c.map.ensures.runs (λ a r f. search rules) (λ k y f. search rules) in
+    let blocks = c.args.blocks in
+    let made = counted _ _ (λ k y. MatchResult y (Fresh k blocks) (IfTooLarge (256 < blocks))) _ c.args.count c.map.ensures.runs (λ a r f. search rules) (λ k y f. search rules) in
     let all = IfOk-weaker c.try_collect.result _ _ (λ v run.
     let each = made run.0 run.1 in
     let got = run.3 (λ xs was x is a b. search rules) in
-    all_fresh homes _ run.0.at each.1 v got.0 run.0.len c.args.count got.1 got.2 (each.0 run.2) got.3) c.try_collect.ensures.runs in
+    all_fresh blocks _ run.0.at each.1 v got.0 run.0.len c.args.count got.1 got.2 (each.0 run.2) got.3) c.try_collect.ensures.runs in
     let first = IfErr-weaker c.try_collect.result _ _ (λ e why. ⊎_elim
     (λ full. search rules)
-    (λ run. why_at homes _ run.0.at (made run.0 run.1).1 run.2.0 e run.2.2) why) c.try_collect.ensures.err in
+    (λ run. why_at blocks _ run.0.at (made run.0 run.1).1 run.2.0 e run.2.2) why) c.try_collect.ensures.err in
     MatchResult-from_both c.try_collect.result _ _ all first

@@ -1,5 +1,0 @@
-use Rattle.advertisement.proofs.Told.{all_to_customers_lem}
-use Rattle.advertisement.proofs.laws.all_to_customers.Goals as goal
-
-pub returns : goal.returns
-returns c = all_to_customers_lem

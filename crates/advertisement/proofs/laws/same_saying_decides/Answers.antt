@@ -1,5 +1,0 @@
-use Rattle.advertisement.proofs.Sayings.{same_saying_decides_lem}
-use Rattle.advertisement.proofs.laws.same_saying_decides.Goals as goal
-
-pub returns : goal.returns
-returns c = same_saying_decides_lem

@@ -1,0 +1,4 @@
+mod Alike
+mod Answered
+mod Refusing
+mod Rows

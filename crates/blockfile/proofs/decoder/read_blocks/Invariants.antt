@@ -1,6 +1,0 @@
-use Rattle.wire.specs.Reading.{input}
-use Rattle.blockfile.proofs.Progress.{Sofar}
-use Rattle.blockfile.proofs.decoder.read_blocks.Given as goal
-
-abbrev pub invariant-loop-k : goal.invariant-loop-k
-invariant-loop-k l = Sofar l.networks (input l.initial.reader) l.k-counter l.reader l.blocks

@@ -1,5 +1,0 @@
-use Rattle.blockfile.proofs.Decoded.{read_encodes}
-use Rattle.blockfile.proofs.laws.faultless_is_encoded.Goals as goal
-
-pub returns : goal.returns
-returns c = read_encodes

@@ -1,2 +1,0 @@
-pub mod Flight
-pub mod Laws

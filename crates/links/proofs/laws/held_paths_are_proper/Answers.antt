@@ -1,5 +1,0 @@
-use Rattle.links.proofs.Holding.{stays_proper}
-use Rattle.links.proofs.laws.held_paths_are_proper.Goals as goal
-
-pub returns : goal.returns
-returns c = stays_proper

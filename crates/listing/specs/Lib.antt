@@ -1,3 +1,0 @@
-pub mod Encoding
-pub mod Kind
-pub mod Words

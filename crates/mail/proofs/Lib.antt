@@ -1,4 +1,0 @@
-pub mod Posted
-pub mod Mailed
-pub mod Stepping
-pub mod Counted

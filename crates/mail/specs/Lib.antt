@@ -1,3 +1,0 @@
-pub mod Posts
-pub mod Posting
-pub mod Whole

@@ -1,0 +1,13 @@
+pub mod Checks
+pub mod Gathered
+pub mod Firsts
+pub mod Chains
+pub mod Orders
+pub mod Reach
+pub mod Best
+pub mod Chosen
+pub mod Ranks
+pub mod Sayings
+pub mod Told
+pub mod Faults
+pub mod Holding

@@ -1,6 +1,0 @@
--- The home, and no other, goes by its own.
-use Rattle.selection.proofs.Chosen.{own_home}
-use Rattle.selection.proofs.laws.home_by_its_own.Goals as goal
-
-pub returns : goal.returns
-returns c = own_home

@@ -1,6 +1,0 @@
--- No candidate is before the one that is chosen.
-use Rattle.selection.proofs.Chosen.{none_before}
-use Rattle.selection.proofs.laws.none_before_chosen.Goals as goal
-
-pub returns : goal.returns
-returns c = none_before

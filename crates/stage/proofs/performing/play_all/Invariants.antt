@@ -1,6 +1,0 @@
-use Rattle.std.proofs.Common.{length}
-use Rattle.script.specs.Next.{left_of}
-use Rattle.stage.proofs.performing.play_all.Given as goal
-
-abbrev pub decreases-loop-command : goal.decreases-loop-command
-decreases-loop-command l = length (left_of l.script)
