@@ -9,7 +9,7 @@ use Rattle.model.specs.SelectionLaws.{Agreed, NotBelow}
 use Rattle.model.proofs.Chosen.{at_home, own_home}
 use Rattle.model.proofs.Ranks.{rank_decides_lem}
 use Rattle.model.specs.Export.{may_tell, in_front, told}
-use Rattle.model.specs.World.{World, Sound}
+use Rattle.model.specs.World.{World, RankFirst, Sound, rel_at}
 use Rattle.convergence.specs.Channels.{Lawful}
 use Rattle.model.specs.Levels.{Heights, level_to, level}
 use Rattle.convergence.specs.Levels.{LowerDecides, system}
@@ -83,33 +83,37 @@ same_told rel me k a b na nb h =
     (λ s. none_told rel me k a na s.0 ∙ sym (none_told rel me k b nb s.1))
     h
 
-module _ (w : World) (sound : Sound w) (height : ℕ → ℕ) (stands : Heights w height) (b : ℕ) where
+module _ (order : ℕ → Order) (w : World) (sound : Sound w) (height : ℕ → ℕ) (stands : Heights w height) (b : ℕ) (ranked : (i : ℕ) → i < w.n → RankFirst (rel_at w i) (order i)) where
   lower : (i j k : ℕ) → i < w.n → j < w.n → rank (w.rel i j) < threshold (w.rel i k) → level w height j i < level w height i k
   lower i j k hi hj l =
       lower_to w.n (height i) (height j) (w.rel i j) (w.rel i k) (w.rel j i) (sound.both i j hi hj)
       (stands.within i hi) (stands.within j hj) (stands.falls i j hi hj) (stands.falls j i hj hi) l
 
   abbrev chosen : (ℕ → Bool) → ℕ → (ℕ → Said) → Choice
-  chosen up i says = choose (w.order i) (w.rel i) up i (w.is_home b i) says w.n
+  chosen up i says = choose (order i) (w.rel i) up i (w.is_home b i) says w.n
 
   law : (up : ℕ → Bool) (i k : ℕ) (r q : ℕ → Said) → i < w.n → ((j : ℕ) → j < w.n → level w height j i < level w height i k → r j ≡ q j) → told (w.rel i) i k (chosen up i r) ≡ told (w.rel i) i k (chosen up i q)
   law up i k r q hi same =
       ⊎_elim
-      (λ e. ap (told (w.rel i) i k) (at_home (w.order i) (w.rel i) up i (w.is_home b i) r w.n e ∙ sym (at_home (w.order i) (w.rel i) up i (w.is_home b i) q w.n e)))
+      (λ e. ap (told (w.rel i) i k) (at_home (order i) (w.rel i) up i (w.is_home b i) r w.n e ∙ sym (at_home (order i) (w.rel i) up i (w.is_home b i) q w.n e)))
       (λ ne. same_told (w.rel i) i k (chosen up i r) (chosen up i q)
-      (λ f. both_ways (w.is_home b i) ne ((own_home (w.order i) (w.rel i) up i (w.is_home b i) r w.n).0 f))
-      (λ f. both_ways (w.is_home b i) ne ((own_home (w.order i) (w.rel i) up i (w.is_home b i) q w.n).0 f))
-      (rank_decides_lem (w.order i) (w.rel i) (sound.ranked i hi) (threshold (w.rel i k)) i (w.is_home b i) w.n up up r q
+      (λ f. both_ways (w.is_home b i) ne ((own_home (order i) (w.rel i) up i (w.is_home b i) r w.n).0 f))
+      (λ f. both_ways (w.is_home b i) ne ((own_home (order i) (w.rel i) up i (w.is_home b i) q w.n).0 f))
+      (rank_decides_lem (order i) (w.rel i) (ranked i hi) (threshold (w.rel i k)) i (w.is_home b i) w.n up up r q
       (λ j hj l. ap (λ s. cond (related (w.rel i j) && up j) (usable i s) None) (same j hj (lower i j k hi hj l)))))
       (cases_Bool (w.is_home b i))
 
-  pub lawful : Lawful (system w height b)
-  lawful =
+  pub lawful_by : Lawful (system order w height b)
+  lawful_by =
       record {
         low = λ i k hi hk. below_most w.n (height i) (w.rel i k) (stands.within i hi) (λ e. let f = stands.falls i k hi hk e in omega arith);
         law = λ up i k r q hi hk same. ap (λ s. cond (up k) s None) (law up i k r q hi same);
-        all = λ up i r q hi same. ap (cond (w.is_home b i) local) (same_best (w.order i) _ _ w.n (λ j hj. ap (λ s. cond (related (w.rel i j) && up j) (usable i s) None) (same j hj)));
+        all = λ up i r q hi same. ap (cond (w.is_home b i) local) (same_best (order i) _ _ w.n (λ j hj. ap (λ s. cond (related (w.rel i j) && up j) (usable i s) None) (same j hj)));
       }
 
+-- in the order in which the networks of a world select
+pub lawful : (w : World) (sound : Sound w) (height : ℕ → ℕ) (stands : Heights w height) (b : ℕ) → Lawful (system w.order w height b)
+lawful w sound height stands b = lawful_by w.order w sound height stands b sound.ranked
+
 pub lower_decides : LowerDecides
-lower_decides w height b sound stands = lawful w sound height stands b
+lower_decides order w height b sound stands ranked = lawful_by order w sound height stands b ranked

@@ -15,7 +15,7 @@ use Rattle.convergence.proofs.Stretches.{stretches_settle}
 
 module _ (w : World) (sound : Sound w) (up : Links) (b : ℕ) where
   abbrev ours : System Said Choice
-  ours = system w (height w sound) b
+  ours = system w.order w (height w sound) b
 
   ours_lawful : Lawful ours
   ours_lawful = lawful w sound (height w sound) (height_stands w sound) b
