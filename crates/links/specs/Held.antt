@@ -1,5 +1,6 @@
 -- What a router and its tables hold, in the terms of the rules. Assumes nothing.
-use Rattle.std.specs.Prelude.{ℕ, Bool, true, ◌&&◌, List, vec_items, nat_le, nat_lt}
+use Rattle.std.specs.Prelude.{ℕ, Bool, true, ◌&&◌, List, Vec, vec_items, nat_le, nat_lt}
+use Rattle.std.specs.declared.alloc.Global.{Global}
 use Rattle.model.specs.Local.{Local}
 use Rattle.model.specs.Ports.{Port}
 use Rattle.model.specs.World as rules
@@ -28,6 +29,10 @@ blocks_of t = count t.received
 -- by block, who was to be told when a link turned last
 abbrev pub audiences_of : Tables → List NetworkSet
 audiences_of t = vec_items t.audiences
+
+-- the same as it stands in memory: where, and with how much room
+abbrev pub audience_list : Tables → Vec NetworkSet Global
+audience_list t = t.audiences
 
 -- the world of the rules, with the blocks that tables are of
 abbrev pub world_for : World → Tables → rules.World

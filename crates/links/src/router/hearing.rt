@@ -8,7 +8,7 @@ ghost use Rattle.selection.specs.Paths.{count};
 ghost use Rattle.advertisement.specs.Updates.{block_of, news, said};
 ghost use Rattle.advertisement.specs.declared.update.Update.TheVariants.{Announce};
 ghost use Rattle.links.specs.Answers.{Audience, Refuses};
-ghost use Rattle.links.specs.Held.{audiences_of, blocks_of, fits, held, number_of, then_held};
+ghost use Rattle.links.specs.Held.{audience_list, blocks_of, fits, held, number_of, then_held};
 ghost use Rattle.links.specs.Held.{world_for};
 ghost use Rattle.links.specs.Rules.{AnswersHearing, held_after_hearing, teller_fault, update_fault};
 ghost use Rattle.links.specs.Rules.{way_fault};
@@ -149,7 +149,7 @@ impl Router {
     ) -> (Router, Result<NetworkSet, Fault>)
         ensures router { result.0 ≡ self }
         ensures blocks { blocks_of tables.new ≡ blocks_of tables.old }
-        ensures audiences { audiences_of tables.new ≡ audiences_of tables.old }
+        ensures audiences { audience_list tables.new ≡ audience_list tables.old }
         ensures held { held self tables.new
             ≡ held_after_hearing self world.entry tables.old from (news update) }
         ensures answer { AnswersHearing self world.entry tables.old from (news update) result.1 }

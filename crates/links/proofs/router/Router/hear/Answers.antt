@@ -1,5 +1,5 @@
 -- A taken update is written, and its block told anew: the local step.
-use Rattle.std.proofs.Common.{refl, ap, ◌∙◌}
+use Rattle.std.proofs.Common.{◌∙◌}
 use Rattle.advertisement.specs.Updates.{news}
 use Rattle.model.specs.Hearing.{only}
 use Rattle.model.specs.Local.{retold, sends}
@@ -16,19 +16,22 @@ take-audience-requires c =
       fits = fitting c.args.world c.args.tables.now c.args.self c.args.from c.args.update taken;
     }
 
-pub returns : goal.returns
-returns c =
+pub returns-clause-held : goal.returns-clause-held
+returns-clause-held c =
     let w = world_for c.args.world c.args.tables.now in
     let me = number_of c.args.self in
     let s = held c.args.self c.args.tables.now in
     let u = news c.args.update in
     let taken = c.in_default.ensures in
     let after = replaced_is s c.args.from u _ c.take-audience.ensures.received in
-    record {
-      router = refl;
-      blocks = c.take-audience.ensures.blocks;
-      audiences = ap (λ x. x.items) c.take-audience.ensures.audiences;
-      held = c.take-audience.ensures.held ∙ (λ x. retold w me (only u.block) (after x)) ∙ heard_is w me s c.args.from u taken;
-      answer = (taken, λ k. c.take-audience.ensures.whom k ∙ (λ x. sends w me (only u.block) (after x) u.block k));
-      kept = tt;
-    }
+    c.take-audience.ensures.held ∙ (λ x. retold w me (only u.block) (after x)) ∙ heard_is w me s c.args.from u taken
+
+pub returns-clause-answer : goal.returns-clause-answer
+returns-clause-answer c =
+    let w = world_for c.args.world c.args.tables.now in
+    let me = number_of c.args.self in
+    let s = held c.args.self c.args.tables.now in
+    let u = news c.args.update in
+    let taken = c.in_default.ensures in
+    let after = replaced_is s c.args.from u _ c.take-audience.ensures.received in
+    (taken, λ k. c.take-audience.ensures.whom k ∙ (λ x. sends w me (only u.block) (after x) u.block k))
