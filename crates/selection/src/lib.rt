@@ -9,7 +9,7 @@ mod set;
 mod table;
 mod world;
 
-pub use laws::{customers_decide, same_rows_same_bytes};
+pub use laws::{customers_decide, limit_as_told, same_rows_same_bytes};
 pub use node::Node;
 pub use route::Route;
 pub use selecting::{passes, select};

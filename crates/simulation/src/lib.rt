@@ -11,6 +11,6 @@ mod simulation;
 mod wording;
 
 pub use cause::{Cause, Refusal};
-pub use laws::rest_hears;
+pub use laws::{limits_as_told, rest_hears};
 pub use links::CreationError;
 pub use simulation::{MOST_BLOCKS, MOST_NETWORKS, Simulation};

@@ -23,7 +23,9 @@ impl Clone for PathTable {
     ghost is_clone = { λ t u. (count u ≡ count t) × ((b j : ℕ) → row u b j ≡ row t b j) };
 
     fn clone(&self) -> Result<PathTable, AllocError> {
-        let blocks = self.blocks.clone()?;
+        // at once, where `clone` goes block by block
+        let mut blocks = Vec::with_capacity(*self.blocks.allocator(), self.blocks.len())?;
+        blocks.extend_from_slice(&self.blocks)?;
         Ok(PathTable { blocks })
     }
 }
